@@ -1,0 +1,3 @@
+// Stores that stand on other stores.
+pub mod level;
+pub mod through;

@@ -1,0 +1,5 @@
+pub mod Pictures
+pub mod Rowwise
+pub mod Lattices
+pub mod Flats
+pub mod Copying
