@@ -1,0 +1,4 @@
+-- What depths, cones and counts in code rest on.
+mod Depths
+mod Cones
+pub mod Counting

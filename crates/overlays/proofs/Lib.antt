@@ -1,0 +1,2 @@
+-- What overlays rest on. Other crates may cite these modules.
+pub mod Laying

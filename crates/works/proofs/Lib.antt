@@ -1,0 +1,4 @@
+-- Laying, settling and previewing, joined from their steps.
+mod Laid
+mod Settled
+mod Previewed
