@@ -65,7 +65,11 @@ fn paint(picture: &mut Rows, rectangle: Rectangle, samples: &[u16]) {
     for (i, sample) in samples.iter().enumerate() {
         let row = i.checked_div(rectangle.width).unwrap_or(0);
         let column = i.checked_rem(rectangle.width).unwrap_or(0);
-        picture.set(rectangle.first_row.wrapping_add(row), rectangle.first_column.wrapping_add(column), *sample as i64);
+        picture.set(
+            rectangle.first_row.wrapping_add(row),
+            rectangle.first_column.wrapping_add(column),
+            *sample as i64,
+        );
     }
 }
 
@@ -87,10 +91,23 @@ fn compare(tally: &mut Tally, store: &FlatStore<'_>, picture: &Rows) {
 }
 
 // Compares the cone's cells in one row with the rule.
-fn compare_cone_row(tally: &mut Tally, shape: Shape, cone: &Cone, rectangle: Rectangle, row: usize) -> u128 {
+fn compare_cone_row(
+    tally: &mut Tally,
+    shape: Shape,
+    cone: &Cone,
+    rectangle: Rectangle,
+    row: usize,
+) -> u128 {
     let mut count = 0u128;
     for column in 0..shape.width {
-        let reached = is_reached(shape.height, shape.width, rectangle, shape.level.number, row, column);
+        let reached = is_reached(
+            shape.height,
+            shape.width,
+            rectangle,
+            shape.level.number,
+            row,
+            column,
+        );
         tally.note(cone.contains(row, column) == reached);
         if reached {
             count = count.wrapping_add(1);
@@ -112,13 +129,29 @@ fn compare_cone(tally: &mut Tally, shape: Shape, cone: &Cone, rectangle: Rectang
 fn some_rectangle(noise: &mut Noise, shape: Shape) -> Rectangle {
     let first_row = noise.below(shape.height);
     let first_column = noise.below(shape.width);
-    let height = noise.below(shape.height.saturating_sub(first_row)).saturating_add(1);
-    let width = noise.below(shape.width.saturating_sub(first_column)).saturating_add(1);
-    Rectangle { first_row, first_column, height, width }
+    let height = noise
+        .below(shape.height.saturating_sub(first_row))
+        .saturating_add(1);
+    let width = noise
+        .below(shape.width.saturating_sub(first_column))
+        .saturating_add(1);
+    Rectangle {
+        first_row,
+        first_column,
+        height,
+        width,
+    }
 }
 
 // Edits a rectangle by the library, from the cells alone: undone in the scratch, replaced, lifted again, and the cone's cells put.
-fn edit<'a>(store: FlatStore<'a>, scratch: &mut [Cell], shape: Shape, rectangle: Rectangle, samples: &[u16], cone: Cone) -> (FlatStore<'a>, u128) {
+fn edit<'a>(
+    store: FlatStore<'a>,
+    scratch: &mut [Cell],
+    shape: Shape,
+    rectangle: Rectangle,
+    samples: &[u16],
+    cone: Cone,
+) -> (FlatStore<'a>, u128) {
     let mut store = store;
     let mut work = FlatStore::new(scratch, shape.height, shape.width);
     overlay(&mut work, &Copied { plane: &store });
@@ -130,22 +163,48 @@ fn edit<'a>(store: FlatStore<'a>, scratch: &mut [Cell], shape: Shape, rectangle:
 }
 
 // Lays a picture, edits it once, and compares cells, cone and picture with those of the plain transform.
-pub fn compare_plate(heap: Global, tally: &mut Tally, noise: &mut Noise, shape: Shape) -> Result<(), AllocError> {
+pub fn compare_plate(
+    heap: Global,
+    tally: &mut Tally,
+    noise: &mut Noise,
+    shape: Shape,
+) -> Result<(), AllocError> {
     let area = shape.height.saturating_mul(shape.width);
-    let whole = Rectangle { first_row: 0, first_column: 0, height: shape.height, width: shape.width };
+    let whole = Rectangle {
+        first_row: 0,
+        first_column: 0,
+        height: shape.height,
+        width: shape.width,
+    };
     let laid = samples(heap, noise, area)?;
     let mut picture = Rows::new(heap, shape.height, shape.width)?;
     paint(&mut picture, whole, &laid);
-    let mut cells = vec![in heap; Cell { number: 0, bit: false }; area]?;
-    let mut scratch = vec![in heap; Cell { number: 0, bit: false }; area]?;
+    let mut cells = vec![in heap; Cell {
+        number: 0,
+        bit: false
+    }; area]?;
+    let mut scratch = vec![in heap; Cell {
+        number: 0,
+        bit: false
+    }; area]?;
     let mut store = FlatStore::new(&mut cells, shape.height, shape.width);
-    overlay(&mut store, &Patch { rectangle: whole, samples: &laid });
+    overlay(
+        &mut store,
+        &Patch {
+            rectangle: whole,
+            samples: &laid,
+        },
+    );
     let store = forward(store, &shape.kernel, shape.level);
     let mut plain = picture.copy(heap)?;
     transform(heap, &mut plain, shape.kernel, shape.level.number)?;
     compare(tally, &store, &plain);
     let rectangle = some_rectangle(noise, shape);
-    let replaced = samples(heap, noise, rectangle.height.saturating_mul(rectangle.width))?;
+    let replaced = samples(
+        heap,
+        noise,
+        rectangle.height.saturating_mul(rectangle.width),
+    )?;
     paint(&mut picture, rectangle, &replaced);
     if let Some(cone) = Cone::of_rectangle(shape.height, shape.width, rectangle, shape.level) {
         let (store, count) = edit(store, &mut scratch, shape, rectangle, &replaced, cone);

@@ -76,8 +76,16 @@ fn at(line: &[i64], i: usize) -> i64 {
 
 // The neighbours of a place; a missing one is replaced by the other.
 fn neighbours(line: &[i64], i: usize) -> (i64, i64) {
-    let left = if i > 0 { at(line, i - 1) } else { at(line, i.wrapping_add(1)) };
-    let right = if i.wrapping_add(1) < line.len() { at(line, i.wrapping_add(1)) } else { left };
+    let left = if i > 0 {
+        at(line, i - 1)
+    } else {
+        at(line, i.wrapping_add(1))
+    };
+    let right = if i.wrapping_add(1) < line.len() {
+        at(line, i.wrapping_add(1))
+    } else {
+        left
+    };
     (left, right)
 }
 
@@ -116,7 +124,13 @@ enum Way {
 }
 
 // Every 2^k-th number of a line of the plate.
-fn take_line(heap: Global, picture: &Rows, way: Way, index: usize, step: usize) -> Result<Vec<i64>, AllocError> {
+fn take_line(
+    heap: Global,
+    picture: &Rows,
+    way: Way,
+    index: usize,
+    step: usize,
+) -> Result<Vec<i64>, AllocError> {
     let mut line = Vec::new(heap);
     let whole = match way {
         Way::Down => picture.height(),
@@ -145,7 +159,13 @@ fn put_line(picture: &mut Rows, way: Way, index: usize, step: usize, line: &[i64
 }
 
 // Lifts every line of a lattice in one way.
-fn lift_lines(heap: Global, picture: &mut Rows, kernel: KernelChoice, way: Way, step: usize) -> Result<(), AllocError> {
+fn lift_lines(
+    heap: Global,
+    picture: &mut Rows,
+    kernel: KernelChoice,
+    way: Way,
+    step: usize,
+) -> Result<(), AllocError> {
     let across = match way {
         Way::Down => picture.width(),
         Way::Along => picture.height(),
@@ -161,7 +181,12 @@ fn lift_lines(heap: Global, picture: &mut Rows, kernel: KernelChoice, way: Way, 
 }
 
 // The transform: for each level every column of its lattice, then every row.
-pub fn transform(heap: Global, picture: &mut Rows, kernel: KernelChoice, levels: usize) -> Result<(), AllocError> {
+pub fn transform(
+    heap: Global,
+    picture: &mut Rows,
+    kernel: KernelChoice,
+    levels: usize,
+) -> Result<(), AllocError> {
     let mut step = 1usize;
     for _ in 0..levels {
         lift_lines(heap, picture, kernel, Way::Down, step)?;

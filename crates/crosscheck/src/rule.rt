@@ -37,7 +37,11 @@ struct Side {
 impl Side {
     fn up(self) -> Side {
         let (first, last) = next_span(self.size, self.first, self.last);
-        Side { size: halved_up(self.size), first, last }
+        Side {
+            size: halved_up(self.size),
+            first,
+            last,
+        }
     }
 
     fn has(self, i: i64) -> bool {
@@ -72,8 +76,25 @@ fn wide(n: usize) -> i64 {
 }
 
 // Whether a cell of a plate is in the cone of a rectangle.
-pub fn is_reached(height: usize, width: usize, rectangle: Rectangle, levels: usize, row: usize, column: usize) -> bool {
-    let rows = Side { size: wide(height), first: wide(rectangle.first_row), last: wide(rectangle.first_row).wrapping_add(wide(rectangle.height)).wrapping_sub(1) };
-    let columns = Side { size: wide(width), first: wide(rectangle.first_column), last: wide(rectangle.first_column).wrapping_add(wide(rectangle.width)).wrapping_sub(1) };
+pub fn is_reached(
+    height: usize,
+    width: usize,
+    rectangle: Rectangle,
+    levels: usize,
+    row: usize,
+    column: usize,
+) -> bool {
+    let rows = Side {
+        size: wide(height),
+        first: wide(rectangle.first_row),
+        last: wide(rectangle.first_row).wrapping_add(wide(rectangle.height))
+            .wrapping_sub(1),
+    };
+    let columns = Side {
+        size: wide(width),
+        first: wide(rectangle.first_column),
+        last: wide(rectangle.first_column).wrapping_add(wide(rectangle.width))
+            .wrapping_sub(1),
+    };
     is_in_cone(rows, columns, levels, wide(row), wide(column))
 }

@@ -1,7 +1,7 @@
-// Lifting in place through the level layer, over any store and kernel.
-pub mod axis;
-pub mod levels;
-pub mod pass;
+// Lifting in place through the level layer, over any store and kernel: `passes` has the transforms, the rest is inside.
+mod axis;
+mod levels;
+mod pass;
 pub mod passes;
-pub mod step;
-pub mod sweep;
+mod step;
+mod sweep;

@@ -76,7 +76,7 @@ module _ (s : Setting) (p : Plain) (a : Rectangle) (ds : List Deed) (k : Kept s 
             ap (λ b. p .bits r c || cone (s .amounts) (plan-or-none (p .plan)) b r c) there
             ∙ ap (λ q. p .bits r c || cone (s .amounts) (plan-or-none q) a r c) (k .plan)
             ∙ ap (λ b. b || cone (s .amounts) (plan-or-none (last-plan ds)) a r c) (k .bits h r c)
-            ∙ swap (not (some is-clearing (since is-laying ds))) (some (in-its-cone (s .amounts) (plan-or-none (last-plan ds)) r c) (since is-clearing ds)) (cone (s .amounts) (plan-or-none (last-plan ds)) a r c)
+            ∙ swap (not (some is-clearing (since is-laying ds))) (some (in-its-cone (s .amounts) (plan-or-none (last-plan ds)) r c) (since is-clearing ds)) (cone (s .amounts) (plan-or-none (last-plan ds)) a r c);
       }
   takes (surrendering plate serial) e = ended-still s p a ds k
   takes recalling e = ended-still s p a ds k

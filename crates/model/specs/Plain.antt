@@ -120,13 +120,13 @@ unlaid p = (not (isSome (p .plan)), fault.Unlaid)
 -- Samples are declined where their count is not the area, or where one exceeds the top.
 abbrev pub samples-table : Numbers → ℕ → ℕ → Table
 samples-table xs area top =
-      (not (eqb (xs .count) area), fault.SampleCount)
+    (not (eqb (xs .count) area), fault.SampleCount)
     ∷ (ltb (first-over top xs) (xs .count), fault.Sample Plate (first-over top xs))
     ∷ []
 
 abbrev pub laying-table : Setting → Plain → Plan → Numbers → Table
 laying-table s p q xs =
-      (isSome (p .lease), fault.LeaseOut)
+    (isSome (p .lease), fault.LeaseOut)
     ∷ (not (is-side (q .rows) && is-side (q .columns)), fault.Size Plate)
     ∷ (ltb 5 (q .levels), fault.Levels Plate)
     ∷ (not (is-top (q .top)), fault.Top Plate)
@@ -136,7 +136,7 @@ laying-table s p q xs =
 
 abbrev pub leasing-table : Plain → Rectangle → Table
 leasing-table p a =
-      unlaid p
+    unlaid p
     ∷ (leaves (plan-or-none (p .plan) .rows) (plan-or-none (p .plan) .columns) a, fault.Rectangle Plate)
     ∷ (isSome (p .lease), fault.LeaseOut)
     ∷ (leb 65535 (p .serial), fault.SerialsSpent)
@@ -146,7 +146,7 @@ abbrev pub settling-table : Setting → Plain → ℕ → ℕ → Numbers → �
 settling-table s p plate serial xs records =
     let q = plan-or-none (p .plan) in
     let a = rectangle-or-none (p .lease) in
-      (not (is-out s p plate serial), fault.WrongLease)
+    (not (is-out s p plate serial), fault.WrongLease)
     ∷ (samples-table xs (a .height * a .width) (q .top) ++ ((ltb records (settling-records q a), fault.ScratchShort) ∷ []))
 
 abbrev pub surrender-table : Setting → Plain → ℕ → ℕ → Table
@@ -155,7 +155,7 @@ surrender-table s p plate serial = (not (is-out s p plate serial), fault.WrongLe
 abbrev pub preview-table : Plain → Card → Rectangle → ℕ → ℕ → Table
 preview-table p card a records room =
     let q = plan-or-none (p .plan) in
-      unlaid p
+    unlaid p
     ∷ (ltb (q .levels) (card .level), fault.LevelInHand)
     ∷ (leaves (size (card .level) (q .rows)) (size (card .level) (q .columns)) a, fault.Rectangle Plate)
     ∷ (ltb room (a .height * a .width), fault.OutputShort Plate)
@@ -165,7 +165,7 @@ preview-table p card a records room =
 abbrev pub reading-table : Plain → Card → ℕ → ℕ → Table
 reading-table p card row column =
     let q = plan-or-none (p .plan) in
-      unlaid p
+    unlaid p
     ∷ (ltb (q .levels) (card .level), fault.LevelInHand)
     ∷ (not (ltb row (size (card .level) (q .rows)) && ltb column (size (card .level) (q .columns))), fault.Outside)
     ∷ []

@@ -1,5 +1,5 @@
 -- Laying numbers over a plane in parts.
-use mathlib.Core.Path.{_≡_, refl, sym, ap, _∙_, fun-ext}
+use mathlib.Core.Path.{_≡_, refl, ap, _∙_, fun-ext}
 use mathlib.Core.Bool.{Bool, true, false, cond, _&&_, _||_}
 use Prim.Native.Nat.{ℕ, _+_, _<_, _≤_}
 use native.Mathlib.Omega.{arith}
@@ -7,7 +7,7 @@ use lib.Dec.{eqb, ltb}
 use lib.IntN.{ℤ}
 use Rattle.std.proofs.shelf.Ways.{tells}
 use Rattle.std.proofs.shelf.Tests.{lt-ltb, ltb-true, and-parts}
-use Rattle.planes.specs.Planes.{Cells, Picture, with-at, written, marked}
+use Rattle.planes.specs.Planes.{Cells, Picture, with-at}
 use Rattle.overlays.specs.Overlays.{inside, overlaid, overlaid-picture, overlaid-bits, put-at, mark-at, in-row}
 
 -- a test at the place (i, j) alone, in the first j columns of row m, and in the first m rows

@@ -75,14 +75,20 @@ module _ (s : Setting) (p : Plain) (v : View) (q : Plan) (xs : List ℕ) (h : Sh
       let wide : v .width ≡ q .columns = h .width ∙ sides .1 in
       let cells : Agree (v .height) (v .width) (w .number) (forward (v .amounts) (v .height) (v .width) (q .levels) (samples.pictured (v .width) (samples-at xs))) = l .cells (q .top) small budget in
       let moved : Agree (s .height) (s .width) (w .number) (forward (s .amounts) (q .rows) (q .columns) (q .levels) (pictured q (samples-of xs))) =
-          λ r c i j. cells r c (subst (λ n. r < n) (sym (h .height)) i) (subst (λ n. c < n) (sym (h .width)) j)
-            ∙ (λ k. forward (h .amounts k) (high k) (wide k) (q .levels) (samples.pictured (wide k) (samples-at xs)) r c) in
+      λ r c i j. cells r c (subst (λ n. r < n) (sym (h .height)) i) (subst (λ n. c < n) (sym (h .width)) j)
+      ∙ (λ k. forward (h .amounts k) (high k) (wide k) (q .levels) (samples.pictured (wide k) (samples-at xs)) r c) in
       accepted s p (laying q (samples-of xs)) (with-picture v w b (Some q) (v .lease)) done e
       (record {
-        number = h .number; height = l .sides .0 ∙ h .height; width = l .sides .1 ∙ h .width; amounts = h .amounts; plan = refl; lease = h .lease; serial = h .serial;
+        number = h .number;
+        height = l .sides .0 ∙ h .height;
+        width = l .sides .1 ∙ h .width;
+        amounts = h .amounts;
+        plan = refl;
+        lease = h .lease;
+        serial = h .serial;
         fitting = record { height = sides .0; width = sides .1; samples = λ r c i j. small (r * q .columns + c) };
         no-cell-differs = no-number-differs (s .height) (s .width) (w .number) (forward (s .amounts) (q .rows) (q .columns) (q .levels) (pictured q (samples-of xs))) .1 moved;
-        no-bit-differs = no-bit-differs (s .height) (s .width) b (λ r c. true) .1 (λ r c i j. l .bits r c (subst (λ n. r < n) (sym (h .height)) i) (subst (λ n. c < n) (sym (h .width)) j))
+        no-bit-differs = no-bit-differs (s .height) (s .width) b (λ r c. true) .1 (λ r c i j. l .bits r c (subst (λ n. r < n) (sym (h .height)) i) (subst (λ n. c < n) (sym (h .width)) j));
       })
       refl
 

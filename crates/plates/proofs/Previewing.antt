@@ -79,10 +79,10 @@ module _ (s : Setting) (q : Plan) (x : Plane) (bs : Cells Bool) (l : Option Rect
   there =
       (λ k. previews-there (high k) (wide k) (q .levels) (card .level) a (length xs) m)
       ∙ (let c : leb (card .level) (q .levels) ≡ true = le-leb (card .level) (q .levels) level in
-         let d : leaves (size (card .level) (q .rows)) (size (card .level) (q .columns)) a ≡ false = rows-passed .1 .1 .0 in
-         let f : ltb (length xs) (a .height * a .width) ≡ false = rows-passed .1 .1 .1 .0 in
-         let g = can-be-made q m lawful (ltb-false m (q .rows * q .columns) (rows-passed .1 .1 .1 .1 .0)) in
-         rw (c, d, f, g))
+      let d : leaves (size (card .level) (q .rows)) (size (card .level) (q .columns)) a ≡ false = rows-passed .1 .1 .0 in
+      let f : ltb (length xs) (a .height * a .width) ≡ false = rows-passed .1 .1 .1 .0 in
+      let g = can-be-made q m lawful (ltb-false m (q .rows * q .columns) (rows-passed .1 .1 .1 .1 .0)) in
+      rw (c, d, f, g))
 
   budgeted : Budgeted (v .height) (v .width) (q .levels) (q .top) x
   budgeted = record { small = λ r c i j. h .fitting .samples r c (subst (λ k. r < k) high i) (subst (λ k. c < k) wide j); room = lawful .budget }
@@ -98,7 +98,7 @@ module _ (s : Setting) (q : Plan) (x : Plane) (bs : Cells Bool) (l : Option Rect
   drawn f =
       total-zero (a .height * a .width) _
       (λ i b. same-number (getD ys i (pos 0)) (nth-number (resolution (s .amounts) (q .rows) (q .columns) (card .level) x) a i)
-        (f .numbers x (q .top) budgeted shown i b ∙ (λ k. nth-number (resolution (h .amounts k) (high k) (wide k) (card .level) x) a i)))
+      (f .numbers x (q .top) budgeted shown i b ∙ (λ k. nth-number (resolution (h .amounts k) (high k) (wide k) (card .level) x) a i)))
 
   worked-drawn : (L k : ℕ) → (q .levels ≤ 5 → L ≡ q .levels) → (card .level ≤ 5 → k ≡ card .level) → (A : Type 0) (o : Option (Unit {0})) → Worked v a L k m xs ys A o
       → preview-differences s (laid-plain q x bs l n) card a ys ≡ 0

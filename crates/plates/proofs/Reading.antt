@@ -39,7 +39,7 @@ planned s p v h l e =
       plan = q .0;
       is = q .1;
       fits = subst (λ o. Cases o (Unit {0}) (Fitting s (p .picture))) (q .1) (h .fitting);
-      lawful = subst (λ o. lawful-state o (v .lease) ≡ true) (h .plan ∙ q .1) l
+      lawful = subst (λ o. lawful-state o (v .lease) ≡ true) (h .plan ∙ q .1) l;
     }
 
 -- a place that passed the table lies on the plate, and under it a cell of the store
@@ -51,14 +51,15 @@ module _ (s : Setting) (p : Plain) (v : View) (card : Card) (row column : ℕ) (
       let q = l .plan in
       let few : q .levels ≤ 5 = few-levels q (v .lease) (l .lawful) in
       let level : card .level ≤ q .levels = ltb-false (q .levels) (card .level) (subst (λ o. ltb (plan-or-none o .levels) (card .level) ≡ false) (l .is) (t .1 .0)) in
-      let sides = and-parts _ _ (not-false _ (subst (λ o. not (ltb row (size (card .level) (plan-or-none o .rows)) && ltb column (size (card .level) (plan-or-none o .columns))) ≡ false) (l .is) (t .1 .1 .0))) in
-      ( le-trans level few
-      , subst (λ n. row * 2 ^ card .level < n) (sym (l .fits .height)) (cell-inside (card .level) (q .rows) row (ltb-true row (size (card .level) (q .rows)) (sides .0)))
-      , subst (λ n. column * 2 ^ card .level < n) (sym (l .fits .width)) (cell-inside (card .level) (q .columns) column (ltb-true column (size (card .level) (q .columns)) (sides .1))) )
+      let sides = and-parts _ _ (not-false _ (subst (λ o. not (ltb row (size (card .level) (plan-or-none o .rows)) && ltb column (size (card .level) (plan-or-none o .columns))) ≡ false) (l .is) (t .1 .1 .0))) in (
+        le-trans level few,
+        subst (λ n. row * 2 ^ card .level < n) (sym (l .fits .height)) (cell-inside (card .level) (q .rows) row (ltb-true row (size (card .level) (q .rows)) (sides .0))),
+        subst (λ n. column * 2 ^ card .level < n) (sym (l .fits .width)) (cell-inside (card .level) (q .columns) column (ltb-true column (size (card .level) (q .columns)) (sides .1))),
+      )
 
   pub reads-the-cell : own-fault v (reading card row column) ≡ None → (x : ℤ) (b : Bool)
       → (card .level ≤ 5 → row * 2 ^ card .level < v .height → column * 2 ^ card .level < v .width
-        → (x ≡ v .cells (row * 2 ^ card .level) (column * 2 ^ card .level)) × (b ≡ v .bits (row * 2 ^ card .level) (column * 2 ^ card .level)))
+      → (x ≡ v .cells (row * 2 ^ card .level) (column * 2 ^ card .level)) × (b ≡ v .bits (row * 2 ^ card .level) (column * 2 ^ card .level)))
       → Shows s (after s p (reading card row column)) v × (cell x b ≡ reply s p (reading card row column))
   reads-the-cell own x b below =
       let r = row * 2 ^ card .level in

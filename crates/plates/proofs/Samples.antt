@@ -36,8 +36,8 @@ settling-samples s p plate serial xs records f q a e o n m h =
     let rows = samples-table xs area (plan-or-none (p .plan) .top) in
     let row : Bool × Fault = (ltb records (settling-records (plan-or-none (p .plan)) (rectangle-or-none (p .lease))), fault.ScratchShort) in
     let out : is-out s p plate serial ≡ true =
-        subst (λ l. (isSome l && (eqb plate (s .number) && eqb serial (p .serial))) ≡ true) (sym o) (and-from (eqb plate (s .number)) (eqb serial (p .serial)) (eq-eqb plate (s .number) n) (eq-eqb serial (p .serial) m)) in
+    subst (λ l. (isSome l && (eqb plate (s .number) && eqb serial (p .serial))) ≡ true) (sym o) (and-from (eqb plate (s .number)) (eqb serial (p .serial)) (eq-eqb plate (s .number) n) (eq-eqb serial (p .serial) m)) in
     let h1 : Some f ≡ first-fault (samples-table xs area (q .top)) =
-        subst (λ l. Some f ≡ first-fault (samples-table xs (rectangle-or-none l .height * rectangle-or-none l .width) (q .top))) (sym o) h in
+    subst (λ l. Some f ≡ first-fault (samples-table xs (rectangle-or-none l .height * rectangle-or-none l .width) (q .top))) (sym o) h in
     let h2 : Some f ≡ first-fault rows = subst (λ l. Some f ≡ first-fault (samples-table xs area (plan-or-none l .top))) (sym e) h1 in
     sym (ap (λ b. cond (not b) (Some fault.WrongLease) (first-fault (rows ++ (row ∷ [])))) out ∙ first-in-front rows (row ∷ []) f (sym h2))

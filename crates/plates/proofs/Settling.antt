@@ -134,32 +134,38 @@ module _ (s : Setting) (q : Plan) (a : Rectangle) (x : Plane) (bs : Cells Bool) 
 
   settled-shows : (w : Picture) (d : Cells Bool) (k : ℕ) → Settled (v .amounts) (q .levels) a (samples-at xs) (picture-of v) (v .bits) w d k
       → Shows s (after s (leased-plain q a x bs n) (settling plate serial (samples-of xs) m)) (with-picture v w d (v .plan) None)
-        × (settled k ≡ reply s (leased-plain q a x bs n) (settling plate serial (samples-of xs) m))
+      × (settled k ≡ reply s (leased-plain q a x bs n) (settling plate serial (samples-of xs) m))
   unfolding overlaid-bits
   settled-shows w d k l =
       let edited = samples.replaced a (samples-at xs) x in
       let cells = l .cells x (q .top) budgeted small shown in
       let moved : Agree (s .height) (s .width) (w .number) (forward (s .amounts) (q .rows) (q .columns) (q .levels) edited) =
-          λ r c i j. cells r c (subst (λ z. r < z) (sym (h .height)) i) (subst (λ z. c < z) (sym (h .width)) j)
-            ∙ (λ z. forward (h .amounts z) (high z) (wide z) (q .levels) edited r c) in
+      λ r c i j. cells r c (subst (λ z. r < z) (sym (h .height)) i) (subst (λ z. c < z) (sym (h .width)) j)
+      ∙ (λ z. forward (h .amounts z) (high z) (wide z) (q .levels) edited r c) in
       let marked : Agree (s .height) (s .width) d (λ r c. bs r c || inCone (q .rows) (q .columns) (rows-of a) (columns-of a) (q .levels) r c) =
-          λ r c i j.
-            ap (λ z. z r c) (l .bits)
-            ∙ bits-inside (v .height) (v .width) (inCone (v .height) (v .width) (rows-of a) (columns-of a) (q .levels)) (v .bits) r c (subst (λ z. r < z) (sym (h .height)) i) (subst (λ z. c < z) (sym (h .width)) j)
-            ∙ ap (λ z. z || inCone (v .height) (v .width) (rows-of a) (columns-of a) (q .levels) r c) (no-bit-differs (s .height) (s .width) (v .bits) bs .0 (h .no-bit-differs) r c i j)
-            ∙ (λ z. bs r c || inCone (high z) (wide z) (rows-of a) (columns-of a) (q .levels) r c) in
+      λ r c i j.
+      ap (λ z. z r c) (l .bits)
+      ∙ bits-inside (v .height) (v .width) (inCone (v .height) (v .width) (rows-of a) (columns-of a) (q .levels)) (v .bits) r c (subst (λ z. r < z) (sym (h .height)) i) (subst (λ z. c < z) (sym (h .width)) j)
+      ∙ ap (λ z. z || inCone (v .height) (v .width) (rows-of a) (columns-of a) (q .levels) r c) (no-bit-differs (s .height) (s .width) (v .bits) bs .0 (h .no-bit-differs) r c i j)
+      ∙ (λ z. bs r c || inCone (high z) (wide z) (rows-of a) (columns-of a) (q .levels) r c) in
       accepted s (leased-plain q a x bs n) (settling plate serial (samples-of xs) m) (with-picture v w d (v .plan) None) (settled k) e
       (record {
-        number = h .number; height = l .sides .0 ∙ h .height; width = l .sides .1 ∙ h .width; amounts = h .amounts; plan = h .plan; lease = refl; serial = h .serial;
+        number = h .number;
+        height = l .sides .0 ∙ h .height;
+        width = l .sides .1 ∙ h .width;
+        amounts = h .amounts;
+        plan = h .plan;
+        lease = refl;
+        serial = h .serial;
         fitting = record { height = h .fitting .height; width = h .fitting .width; samples = keeps };
         no-cell-differs = no-number-differs (s .height) (s .width) (w .number) (forward (s .amounts) (q .rows) (q .columns) (q .levels) edited) .1 moved;
-        no-bit-differs = no-bit-differs (s .height) (s .width) d (λ r c. bs r c || inCone (q .rows) (q .columns) (rows-of a) (columns-of a) (q .levels) r c) .1 marked
+        no-bit-differs = no-bit-differs (s .height) (s .width) d (λ r c. bs r c || inCone (q .rows) (q .columns) (rows-of a) (columns-of a) (q .levels) r c) .1 marked;
       })
       (ap settled (l .count ∙ (λ z. coneCount (high z) (wide z) (rows-of a) (columns-of a) (q .levels))))
 
   pub worked-shows : (L : ℕ) → (q .levels ≤ 5 → L ≡ q .levels) → (w : Picture) (d : Cells Bool) (A : Type 0) (o : Option ℕ) → Worked v a L xs m w d A o
       → Shows s (after s (leased-plain q a x bs n) (settling plate serial (samples-of xs) m)) (with-picture v w d (v .plan) None)
-        × (settled (valueOr o 0) ≡ reply s (leased-plain q a x bs n) (settling plate serial (samples-of xs) m))
+      × (settled (valueOr o 0) ≡ reply s (leased-plain q a x bs n) (settling plate serial (samples-of xs) m))
   worked-shows L f w d A None g = absurd (false≢true (sym (g .0) ∙ there))
   worked-shows L f w d A (Some k) g = settled-shows w d k (subst (λ z. Settled (v .amounts) z a (samples-at xs) (picture-of v) (v .bits) w d k) (f (lawful .levels)) (g .1))
 

@@ -16,10 +16,17 @@ use Rattle.plates.specs.Shows.{View, setting-of, plain-of, own-fault, Shows}
 -- a plate just made shows the fresh plain plate
 pub shows-fresh : (v : View) → v .plan ≡ None → v .lease ≡ None → v .serial ≡ 0 → Shows (setting-of v) (fresh (setting-of v)) v
 shows-fresh v plan lease serial = record {
-    number = refl; height = refl; width = refl; amounts = refl; plan = plan; lease = lease; serial = serial; fitting = tt;
-    no-cell-differs = no-number-differs (v .height) (v .width) (v .cells) (v .cells) .1 (λ r c a b. refl);
-    no-bit-differs = no-bit-differs (v .height) (v .width) (v .bits) (v .bits) .1 (λ r c a b. refl)
-  }
+  number = refl;
+  height = refl;
+  width = refl;
+  amounts = refl;
+  plan = plan;
+  lease = lease;
+  serial = serial;
+  fitting = tt;
+  no-cell-differs = no-number-differs (v .height) (v .width) (v .cells) (v .cells) .1 (λ r c a b. refl);
+  no-bit-differs = no-bit-differs (v .height) (v .width) (v .bits) (v .bits) .1 (λ r c a b. refl);
+}
 
 -- an accepted call and a declined one
 module _ (s : Setting) (p : Plain) (c : Call) (w : View) (r : Reply) where
@@ -49,8 +56,14 @@ pub cleared-shows : (s : Setting) (p : Plain) (v : View) (q : Picture) (b : Cell
     → q ≡ record { height = v .height; width = v .width; number = v .cells } → b ≡ (λ i j. false)
     → Shows s (taken s p clearing) (record { number = v .number; height = q .height; width = q .width; amounts = v .amounts; cells = q .number; bits = b; plan = v .plan; lease = v .lease; serial = v .serial })
 cleared-shows s p v q b h e f = record {
-    number = h .number; height = ap (λ z. z .height) e ∙ h .height; width = ap (λ z. z .width) e ∙ h .width; amounts = h .amounts;
-    plan = h .plan; lease = h .lease; serial = h .serial; fitting = h .fitting;
-    no-cell-differs = ap (λ z. differences sameNumber (s .height) (s .width) (z .number) (cells-of s p)) e ∙ h .no-cell-differs;
-    no-bit-differs = no-bit-differs (s .height) (s .width) b (λ i j. false) .1 (λ i j k l. ap (λ z. z i j) f)
-  }
+  number = h .number;
+  height = ap (λ z. z .height) e ∙ h .height;
+  width = ap (λ z. z .width) e ∙ h .width;
+  amounts = h .amounts;
+  plan = h .plan;
+  lease = h .lease;
+  serial = h .serial;
+  fitting = h .fitting;
+  no-cell-differs = ap (λ z. differences sameNumber (s .height) (s .width) (z .number) (cells-of s p)) e ∙ h .no-cell-differs;
+  no-bit-differs = no-bit-differs (s .height) (s .width) b (λ i j. false) .1 (λ i j k l. ap (λ z. z i j) f);
+}

@@ -41,9 +41,16 @@ pub record View : Type 0 where
 
 abbrev pub seen : {S K : Type 0} → plane.Ghosts S → store.Ghosts S → kernel.Ghosts K → Plate S K → View
 seen a b k p = record {
-    number = p .number; height = a .picture (p .store) .height; width = a .picture (p .store) .width; amounts = k .amounts (p .kernel);
-    cells = a .picture (p .store) .number; bits = b .bits (p .store); plan = p .plan; lease = p .lease; serial = p .serial
-  }
+  number = p .number;
+  height = a .picture (p .store) .height;
+  width = a .picture (p .store) .width;
+  amounts = k .amounts (p .kernel);
+  cells = a .picture (p .store) .number;
+  bits = b .bits (p .store);
+  plan = p .plan;
+  lease = p .lease;
+  serial = p .serial;
+}
 
 -- What is fixed of a plate at its making, and a plain plate with the plate's own plan, lease and serial: by these the tables decide.
 abbrev pub setting-of : View → Setting

@@ -86,7 +86,13 @@ impl<S: Store, K: Kernel> Plate<S, K> {
         samples_fault(samples, plan.rows * plan.columns, plan.top)
     }
 
-    pub(crate) fn settling_fault(&self, plate: u32, serial: u32, samples: &[u16], records: usize) -> Option<Fault>
+    pub(crate) fn settling_fault(
+        &self,
+        plate: u32,
+        serial: u32,
+        samples: &[u16],
+        records: usize,
+    ) -> Option<Fault>
         ensures is_the_first_row_that_holds { λ r. ⌜ r ≡ own-fault (seen S·Plane S·Store K·Kernel (now (self .entry))) (settling plate serial (samples-of (now (samples .entry))) records) ⌝ }
     {
         let (Some(plan), Some(rectangle)) = (self.plan, self.lease) else {
@@ -104,7 +110,13 @@ impl<S: Store, K: Kernel> Plate<S, K> {
         None
     }
 
-    pub(crate) fn preview_fault(&self, card: &Card, rectangle: Rectangle, records: usize, room: usize) -> Option<Fault>
+    pub(crate) fn preview_fault(
+        &self,
+        card: &Card,
+        rectangle: Rectangle,
+        records: usize,
+        room: usize,
+    ) -> Option<Fault>
         ensures is_the_first_row_that_holds { λ r. ⌜ r ≡ own-fault (seen S·Plane S·Store K·Kernel (now (self .entry))) (previewing (now (card .entry)) rectangle records room) ⌝ }
     {
         let Some(plan) = self.plan else {

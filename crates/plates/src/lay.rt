@@ -22,7 +22,14 @@ impl<S: Store, K: Kernel> Plate<S, K> {
         if let Some(fault) = self.laying_fault(plan, samples) {
             return Err(fault);
         }
-        let _ = works::lay::lay(&mut self.store, &self.kernel, Level { number: plan.levels }, samples);
+        let _ = works::lay::lay(
+            &mut self.store,
+            &self.kernel,
+            Level {
+                number: plan.levels,
+            },
+            samples,
+        );
         self.plan = Some(plan);
         Ok(())
     }

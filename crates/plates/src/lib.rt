@@ -1,8 +1,8 @@
 // The plate: eight calls over any store and any kernel.
 mod checks;
 mod lay;
+pub mod lease;
+pub mod plate;
 mod preview;
 mod settle;
-pub mod lease;
 pub mod state;
-pub mod plate;

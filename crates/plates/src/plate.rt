@@ -33,7 +33,14 @@ impl<S: Store, K: Kernel> Plate<S, K> {
         ensures keeps_the_store { λ r. ⌜ r .store ≡ store ⌝ }
         ensures keeps_the_kernel { λ r. ⌜ r .kernel ≡ kernel ⌝ }
     {
-        Plate { number, store, kernel, plan: None, lease: None, serial: 0 }
+        Plate {
+            number,
+            store,
+            kernel,
+            plan: None,
+            lease: None,
+            serial: 0,
+        }
     }
 
     // The store, once the plate is no more.
@@ -42,7 +49,14 @@ impl<S: Store, K: Kernel> Plate<S, K> {
         K: Drop,
         ensures hands_the_store_back_as_it_is { λ r. ⌜ r ≡ self .store ⌝ }
     {
-        let Plate { number: _, store, kernel: _, plan: _, lease: _, serial: _ } = self;
+        let Plate {
+            number: _,
+            store,
+            kernel: _,
+            plan: _,
+            lease: _,
+            serial: _,
+        } = self;
         store
     }
 
@@ -111,19 +125,31 @@ impl<S: Store, K: Kernel> Plate<S, K> {
         ensures leaves_the_store { λ _. ⌜ now (self .exit) .store ≡ now (self .entry) .store ⌝ }
         ensures follows_the_plain_plate { λ r. ⌜ Follows (leasing (rectangle-at first height width)) (seen S·Plane S·Store K·Kernel (now (self .entry))) (seen S·Plane S·Store K·Kernel (now (self .exit))) (answered leased-as r) ⌝ }
     {
-        let rectangle = Rectangle { first_row: first.row, first_column: first.column, height, width };
+        let rectangle = Rectangle {
+            first_row: first.row,
+            first_column: first.column,
+            height,
+            width,
+        };
         if let Some(fault) = self.leasing_fault(rectangle) {
             return Err(fault);
         }
         self.serial += 1;
         self.lease = Some(rectangle);
-        Ok(Lease { plate: self.number, serial: self.serial })
+        Ok(Lease {
+            plate: self.number,
+            serial: self.serial,
+        })
     }
 
     fn clearing_fault(&self) -> Option<Fault>
         ensures is_the_first_row_that_holds { λ r. ⌜ r ≡ own-fault (seen S·Plane S·Store K·Kernel (now (self .entry))) clearing ⌝ }
     {
-        if self.plan.is_none() { Some(Fault::Unlaid) } else { None }
+        if self.plan.is_none() {
+            Some(Fault::Unlaid)
+        } else {
+            None
+        }
     }
 
     // Unsets all change bits.
@@ -184,7 +210,10 @@ fn cell_at<S: Store>(store: &S, level: usize, at: LatticePlace) -> (i32, bool)
     let rows = store.rows();
     let columns = store.columns();
     match on_store(rows, columns, level, at) {
-        Some(place) => (store.read(place.row, place.column).unwrap_or(0), store.bit(place.row, place.column).unwrap_or(false)),
+        Some(place) => (
+            store.read(place.row, place.column).unwrap_or(0),
+            store.bit(place.row, place.column).unwrap_or(false),
+        ),
         None => (0, false),
     }
 }

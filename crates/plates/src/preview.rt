@@ -21,7 +21,15 @@ use planes::rectangle::Rectangle;
 
 impl<S: Store, K: Kernel> Plate<S, K> {
     // Writes a rectangle of the picture's resolution, row by row, into the front of the output.
-    pub(crate) fn preview(&self, card: &Card, first: LatticePlace, height: usize, width: usize, scratch: &mut [Cell], output: &mut [i32]) -> Result<(), Fault>
+    pub(crate) fn preview(
+        &self,
+        card: &Card,
+        first: LatticePlace,
+        height: usize,
+        width: usize,
+        scratch: &mut [Cell],
+        output: &mut [i32],
+    ) -> Result<(), Fault>
         ensures declines_by_its_own_table { λ r. ⌜ fault-in r ≡ own-fault (seen S·Plane S·Store K·Kernel (now (self .entry))) (previewing (now (card .entry)) (lattice-rectangle first height width) (length (now (scratch .entry))) (length (now (output .entry)))) ⌝ }
         ensures declined_leaves_the_scratch { λ r. ⌜ (isOk r ≡ false → now (scratch .exit) ≡ now (scratch .entry)) ⌝ }
         ensures declined_leaves_the_output { λ r. ⌜ (isOk r ≡ false → now (output .exit) ≡ now (output .entry)) ⌝ }
@@ -29,14 +37,27 @@ impl<S: Store, K: Kernel> Plate<S, K> {
         ensures follows_the_plain_plate { λ r. ⌜ Follows (previewing (now (card .entry)) (lattice-rectangle first height width) (length (now (scratch .entry))) (length (now (output .entry)))) (seen S·Plane S·Store K·Kernel (now (self .entry))) (seen S·Plane S·Store K·Kernel (now (self .entry))) (answered (λ _. done) r) ⌝ }
         ensures shows_the_resolution { λ r. ⌜ ((s : Setting) (p : Plain) → Shows s p (seen S·Plane S·Store K·Kernel (now (self .entry))) → isOk r ≡ true → preview-differences s p (now (card .entry)) (lattice-rectangle first height width) (now (output .exit)) ≡ 0) ⌝ }
     {
-        let rectangle = Rectangle { first_row: first.row, first_column: first.column, height, width };
+        let rectangle = Rectangle {
+            first_row: first.row,
+            first_column: first.column,
+            height,
+            width,
+        };
         if let Some(fault) = self.preview_fault(card, rectangle, scratch.len(), output.len()) {
             return Err(fault);
         }
         let Some(plan) = self.plan else {
             return Err(Fault::Unlaid);
         };
-        let _ = works::preview::preview(&self.store, &self.kernel, level_of(plan.levels), level_of(card.level), rectangle, scratch, output);
+        let _ = works::preview::preview(
+            &self.store,
+            &self.kernel,
+            level_of(plan.levels),
+            level_of(card.level),
+            rectangle,
+            scratch,
+            output,
+        );
         Ok(())
     }
 }

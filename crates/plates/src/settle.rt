@@ -36,7 +36,12 @@ fn is_end_of_lease(fault: Fault) -> bool
 
 impl<S: Store, K: Kernel> Plate<S, K> {
     // Replaces the leased rectangle by the samples, row by row: puts every cell of its cone and no other, and answers their number.
-    pub(crate) fn settle(&mut self, lease: Lease, samples: &[u16], scratch: &mut [Cell]) -> Result<usize, Fault>
+    pub(crate) fn settle(
+        &mut self,
+        lease: Lease,
+        samples: &[u16],
+        scratch: &mut [Cell],
+    ) -> Result<usize, Fault>
         ensures declines_by_its_own_table { λ r. ⌜ fault-in r ≡ own-fault (seen S·Plane S·Store K·Kernel (now (self .entry))) (settling (lease .plate) (lease .serial) (samples-of (now (samples .entry))) (length (now (scratch .entry)))) ⌝ }
         ensures declined_leaves_the_store { λ r. ⌜ (isOk r ≡ false → now (self .exit) .store ≡ now (self .entry) .store) ⌝ }
         ensures declined_leaves_the_scratch { λ r. ⌜ (isOk r ≡ false → now (scratch .exit) ≡ now (scratch .entry)) ⌝ }
@@ -53,7 +58,14 @@ impl<S: Store, K: Kernel> Plate<S, K> {
             return Err(Fault::WrongLease);
         };
         self.lease = None;
-        let count = works::settle::settle(&mut self.store, &self.kernel, level_of(plan.levels), rectangle, samples, scratch);
+        let count = works::settle::settle(
+            &mut self.store,
+            &self.kernel,
+            level_of(plan.levels),
+            rectangle,
+            samples,
+            scratch,
+        );
         Ok(count.unwrap_or(0))
     }
 }

@@ -1,17 +1,17 @@
 -- Laying, joined.
-use mathlib.Core.Path.{_≡_, refl, sym, ap, _∙_}
-use mathlib.Core.Bool.{Bool, true, false, cond, _&&_, _||_}
+use mathlib.Core.Path.{_≡_, ap, _∙_}
+use mathlib.Core.Bool.{Bool, true}
 use Prim.Native.Nat.{ℕ, _+_, _-_, _*_, _<_, _≤_}
 use native.Mathlib.Omega.{arith}
-use lib.IntN.{ℤ, natAbs}
+use lib.IntN.{ℤ}
 use Rattle.std.proofs.shelf.Ways.{tells}
 use Rattle.std.proofs.shelf.Bits.{mul-add-lt}
 use Rattle.std.proofs.shelf.Tests.{or-right, lt-ltb, and-from}
 use Rattle.planes.specs.Planes.{Cells, Picture}
 use Rattle.planes.specs.declared.rectangle.Rectangle.{Rectangle}
-use Rattle.wavelets.specs.Lifting.{Plane, PlaneWork, Amounts, forward, Agree}
+use Rattle.wavelets.specs.Lifting.{PlaneWork, Amounts, forward, Agree}
 use Rattle.lifting.specs.Passes.{Budgeted, Shows-the-transform, with-bits, worked}
-use Rattle.overlays.specs.Overlays.{overlaid, overlaid-picture, overlaid-bits}
+use Rattle.overlays.specs.Overlays.{overlaid-picture, overlaid-bits}
 use Rattle.overlays.specs.Samples.{covers, sample-index, has-sample, patch, pictured}
 use Rattle.overlays.proofs.Laying.{sides, overlaid-in, overlaid-number}
 use Rattle.works.specs.Works.{Same-sides, Laid}

@@ -1,15 +1,13 @@
 -- Previewing, joined from its steps: copying, undoing, copying out.
-use mathlib.Core.Path.{_≡_, refl, sym, ap, _∙_}
-use mathlib.Core.Bool.{Bool, true, false, cond, _&&_}
+use mathlib.Core.Path.{_≡_, sym, ap, _∙_}
+use mathlib.Core.Bool.{true, false, _&&_}
 use mathlib.Core.List.{List}
-use Prim.Native.Nat.{ℕ, _+_, _*_, _/_, _%_, _^_, _<_, _≤_, min}
+use Prim.Native.Nat.{ℕ, _+_, _*_, _/_, _%_, _<_, _≤_}
 use native.Mathlib.Omega.{arith}
 use native.Mathlib.Nat.{min-eq-left, mod-lt}
-use lib.Dec.{eqb, ltb, leb}
-use lib.IntN.{ℤ, pos}
-use lib.ListN.{length, getD}
-use Rattle.std.specs.declared.option.Option.{Option}
-use Rattle.std.specs.declared.option.Option.the-variants.{Some, None}
+use lib.Dec.{ltb, leb}
+use lib.IntN.{ℤ}
+use lib.ListN.{length}
 use Rattle.std.specs.declared.result.Result.{Result}
 use Rattle.std.specs.declared.result.Result.the-variants.{Ok, Err}
 use Rattle.std.specs.Options.{isSome}
@@ -17,13 +15,13 @@ use Rattle.std.proofs.shelf.Ways.{tells}
 use Rattle.std.proofs.shelf.Bits.{div-below}
 use Rattle.std.proofs.shelf.Tests.{cond-true, cond-false, lt-ltb, le-ltb, leb-true, and-parts, and-from, and-right, not-true, both-ways}
 use Rattle.faults.specs.declared.fault.Fault.{Fault}
-use Rattle.planes.specs.Planes.{Cells, Picture}
+use Rattle.planes.specs.Planes.{Picture}
 use Rattle.planes.specs.Rectangles.{leaves}
-use Rattle.planes.specs.Copies.{copy-fault, nth-number, Copied, Copies}
+use Rattle.planes.specs.Copies.{copy-fault, Copied, Copies}
 use Rattle.planes.specs.Flat.{flat-fault}
 use Rattle.planes.specs.declared.rectangle.Rectangle.{Rectangle}
 use Rattle.layers.specs.Layers.{sampled, lattice as layered}
-use Rattle.wavelets.specs.Lifting.{Plane, Amounts, size, lattice, forward, resolution, Agree}
+use Rattle.wavelets.specs.Lifting.{Amounts, size, lattice, forward, Agree}
 use Rattle.wavelets.proofs.Lattices.{cell-inside}
 use Rattle.lifting.specs.Passes.{Budgeted, Shows-the-rounds-below}
 use Rattle.overlays.specs.Overlays.{inside, overlaid-picture}

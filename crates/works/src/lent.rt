@@ -1,6 +1,5 @@
 // A store that is lent: a store by value whose cells are those of another.
 ghost use mathlib.Core.Path.{_≡_, refl, _∙_};
-ghost use mathlib.Core.Bool.{Bool, true, false};
 ghost use denote.Ref.{now as held, name};
 use faults::fault::Fault;
 use planes::plane::Plane;

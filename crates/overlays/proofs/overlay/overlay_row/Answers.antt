@@ -1,6 +1,5 @@
 use mathlib.Core.Path.{_≡_}
-use mathlib.Core.Bool.{cond}
-use Prim.Native.Nat.{ℕ, _<_, _≤_}
+use Prim.Native.Nat.{_≤_}
 use native.Mathlib.Omega.{arith}
 use Rattle.wavelets.proofs.Counts.{countLine-none, countLine-more}
 use Rattle.cones.proofs.Counting.{columns-total, after-is, is-after}

@@ -17,11 +17,15 @@ loop-i-again c =
     (is-not-over (c .args .top) (c .args .samples .now) (c .loop-i .i) (omega arith))
 
 pub returns-then-sample-top : need.returns-then-sample-top
-returns-then-sample-top c = record { is-the-first-over =
-    found (over (c .args .top) (c .args .samples .now)) (c .loop-i .i) (length (c .args .samples .now)) (omega arith) (c .loop-i .inv)
-    (is-over (c .args .top) (c .args .samples .now) (c .loop-i .i) (omega arith)) }
+returns-then-sample-top c = record {
+  is-the-first-over =
+      found (over (c .args .top) (c .args .samples .now)) (c .loop-i .i) (length (c .args .samples .now)) (omega arith) (c .loop-i .inv)
+      (is-over (c .args .top) (c .args .samples .now) (c .loop-i .i) (omega arith));
+}
 
 pub returns : need.returns
-returns c = record { is-the-first-over =
-    let e : c .loop-i .i ≡ length (c .args .samples .now) = omega arith in
-    subst (λ (n : ℕ). n ≡ first-index (over (c .args .top) (c .args .samples .now)) n) e (c .loop-i .inv) }
+returns c = record {
+  is-the-first-over =
+      let e : c .loop-i .i ≡ length (c .args .samples .now) = omega arith in
+      subst (λ (n : ℕ). n ≡ first-index (over (c .args .top) (c .args .samples .now)) n) e (c .loop-i .inv);
+}

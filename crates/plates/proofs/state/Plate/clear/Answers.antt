@@ -14,9 +14,9 @@ use Rattle.plates.proofs.state.Plate.clear.Needs as need
 
 pub returns : need.returns
 returns g c = record {
-    declines-by-its-own-table = search needs;
-    declined-leaves-the-store = search needs;
-    follows-the-plain-plate = λ s p h.
-        accepted s p clearing _ done (sym (own-table s p _ h clearing) ∙ (let e = c .in-rest .ensures tt .is-the-first-row-that-holds in search needs))
-        (cleared-shows s p _ _ _ h (c .clear .ensures .keeps-the-picture) (c .clear .ensures .unsets-every-bit)) refl
-  }
+  declines-by-its-own-table = search needs;
+  declined-leaves-the-store = search needs;
+  follows-the-plain-plate = λ s p h.
+      accepted s p clearing _ done (sym (own-table s p _ h clearing) ∙ (let e = c .in-rest .ensures tt .is-the-first-row-that-holds in search needs))
+      (cleared-shows s p _ _ _ h (c .clear .ensures .keeps-the-picture) (c .clear .ensures .unsets-every-bit)) refl;
+}

@@ -5,6 +5,8 @@ use Rattle.plates.proofs.state.Plate.new.Needs as need
 
 pub returns : need.returns
 returns g c = record {
-    shows-the-fresh-plain-plate = shows-fresh _ refl refl refl;
-    has-the-number = refl; keeps-the-store = refl; keeps-the-kernel = refl
-  }
+  shows-the-fresh-plain-plate = shows-fresh _ refl refl refl;
+  has-the-number = refl;
+  keeps-the-store = refl;
+  keeps-the-kernel = refl;
+}

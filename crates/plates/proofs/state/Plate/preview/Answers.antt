@@ -21,6 +21,6 @@ returns g c =
       leaves-the-rest-of-the-output = rest-stays v a (c .level-of .result .number) (c .level-of-2 .result .number) (length (c .args .scratch .now)) (c .args .output .now) (c .preview .last .output) _ (c .preview .result) (c .preview .ensures .previews-or-changes-nothing);
       follows-the-plain-plate = λ s p h. accepted s p call v done (sym (own-table s p v h call) ∙ o) h refl;
       shows-the-resolution = λ s p h e.
-        draws s p v (c .in-Some-plan .plan) (c .args .card .now) a (length (c .args .scratch .now)) (c .args .output .now) (c .preview .last .output) h (c .in-Some-plan .is) (c .args .self .now .lawful) o
-        (c .level-of .result .number) (c .level-of-2 .result .number) (c .level-of .ensures .is-the-level) (c .level-of-2 .ensures .is-the-level) _ (c .preview .result) (c .preview .ensures .previews-or-changes-nothing)
+          draws s p v (c .in-Some-plan .plan) (c .args .card .now) a (length (c .args .scratch .now)) (c .args .output .now) (c .preview .last .output) h (c .in-Some-plan .is) (c .args .self .now .lawful) o
+          (c .level-of .result .number) (c .level-of-2 .result .number) (c .level-of .ensures .is-the-level) (c .level-of-2 .ensures .is-the-level) _ (c .preview .result) (c .preview .ensures .previews-or-changes-nothing);
     }

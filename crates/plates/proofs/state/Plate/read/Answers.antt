@@ -9,6 +9,6 @@ returns g c =
     record {
       declines-by-its-own-table = e;
       follows-the-plain-plate = λ s p h.
-        reads-the-cell s p (seen (g .S·Plane) (g .S·Store) (g .K·Kernel) (c .args .self .now)) (c .args .card .now) (c .args .at .row) (c .args .at .column) h (c .args .self .now .lawful) (sym e)
-        (c .cell-at .result .0) (c .cell-at .result .1) (c .cell-at .ensures .is-the-cell-below)
+          reads-the-cell s p (seen (g .S·Plane) (g .S·Store) (g .K·Kernel) (c .args .self .now)) (c .args .card .now) (c .args .at .row) (c .args .at .column) h (c .args .self .now .lawful) (sym e)
+          (c .cell-at .result .0) (c .cell-at .result .1) (c .cell-at .ensures .is-the-cell-below);
     }

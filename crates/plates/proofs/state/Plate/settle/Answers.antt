@@ -18,8 +18,8 @@ returns g c =
       declined-leaves-the-store = λ e. absurd (false≢true (sym e));
       declined-leaves-the-scratch = λ e. absurd (false≢true (sym e));
       follows-the-plain-plate = λ s p h.
-        let r = settles s p v (c .in-Some-Some .plan) (c .in-Some-Some .rectangle) (c .args .lease .plate) (c .args .lease .serial) (c .args .samples .now) (length (c .args .scratch .now)) h
-            (c .in-Some-Some .is-0) (c .in-Some-Some .is-1) (c .args .self .now .lawful) o (c .level-of .result .number) (c .level-of .ensures .is-the-level)
-            (g .S·Plane .picture (c .settle-count .last .store)) (g .S·Store .bits (c .settle-count .last .store)) _ (c .settle-count .result) (c .settle-count .ensures .settles-or-changes-nothing) in
-        (r .0, ap settled (c .unwrap-or .ensures) ∙ r .1)
+          let r = settles s p v (c .in-Some-Some .plan) (c .in-Some-Some .rectangle) (c .args .lease .plate) (c .args .lease .serial) (c .args .samples .now) (length (c .args .scratch .now)) h
+          (c .in-Some-Some .is-0) (c .in-Some-Some .is-1) (c .args .self .now .lawful) o (c .level-of .result .number) (c .level-of .ensures .is-the-level)
+          (g .S·Plane .picture (c .settle-count .last .store)) (g .S·Store .bits (c .settle-count .last .store)) _ (c .settle-count .result) (c .settle-count .ensures .settles-or-changes-nothing) in
+          (r .0, ap settled (c .unwrap-or .ensures) ∙ r .1);
     }
