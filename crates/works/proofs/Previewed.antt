@@ -24,14 +24,15 @@ use Rattle.layers.specs.Layers.{sampled, lattice as layered}
 use Rattle.wavelets.specs.Lifting.{Amounts, size, lattice, forward, Agree}
 use Rattle.wavelets.proofs.Lattices.{cell-inside}
 use Rattle.lifting.specs.Passes.{Budgeted, Shows-the-rounds-below}
-use Rattle.overlays.specs.Overlays.{inside, overlaid-picture}
+use Rattle.overlays.specs.Overlays.{overlaid-picture}
+use Rattle.states.specs.States.{everywhere, padded}
 use Rattle.overlays.proofs.Laying.{sides}
 use Rattle.works.specs.Works.{Same-sides, Uncovers, Previewed, previews-there}
 use Rattle.works.proofs.Settled.{copied, none-means}
 
 -- copying and undoing
 pub uncovers : (K : Amounts) (L k : ℕ) (f p q o : Picture) → k ≤ L
-    → Same-sides f p → q ≡ overlaid-picture (inside (f .height) (f .width)) (f .number) p
+    → Same-sides f p → q ≡ overlaid-picture everywhere (padded f) p
     → Same-sides q o → Shows-the-rounds-below K L k q o → Same-sides f o × Uncovers K L k f o
 uncovers K L k f p q o l s e t undo =
     let H = f .height in let W = f .width in

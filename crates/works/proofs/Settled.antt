@@ -5,7 +5,7 @@ use Prim.Native.Nat.{ℕ, _-_, _*_, _<_, _≤_}
 use native.Mathlib.Omega.{arith}
 use native.Mathlib.Nat.{zero-min, mul-le-mul}
 use lib.Dec.{eqb, ltb}
-use lib.IntN.{ℤ, natAbs}
+use lib.IntN.{ℤ, pos, natAbs}
 use Rattle.std.specs.declared.option.Option.the-variants.{Some, None}
 use Rattle.std.specs.Options.{isSome}
 use Rattle.std.proofs.shelf.Ways.{tells}
@@ -27,14 +27,16 @@ use Rattle.cones.proofs.Counting.{countCells-alike, countCells-at-most}
 use Rattle.overlays.specs.Overlays.{inside, overlaid, overlaid-picture}
 use Rattle.overlays.specs.Samples.{covers, sample-index, has-sample, patch, replaced}
 use Rattle.overlays.proofs.Laying.{Alike, sides, overlaid-in, overlaid-not, overlaid-number}
+use Rattle.states.specs.States.{everywhere, padded}
 use Rattle.works.specs.Works.{Same-sides, Settles, settles-there, cone-of}
 
 -- copying: the copy shows what was copied
-pub copied : (f p q : Picture) → Same-sides f p → q ≡ overlaid-picture (inside (f .height) (f .width)) (f .number) p
+pub copied : (f p q : Picture) → Same-sides f p → q ≡ overlaid-picture everywhere (padded f) p
     → Agree (f .height) (f .width) (q .number) (f .number)
 copied f p q s e r c lr lc =
     overlaid-number _ _ p q e r c
-    ∙ overlaid-in (p .height) (p .width) (inside (f .height) (f .width)) (f .number) (p .number) r c (rw (s .0) lr) (rw (s .1) lc) (and-from _ _ (lt-ltb r (f .height) lr) (lt-ltb c (f .width) lc))
+    ∙ overlaid-in (p .height) (p .width) everywhere (padded f) (p .number) r c (rw (s .0) lr) (rw (s .1) lc) refl
+    ∙ cond-true _ (f .number r c) (pos 0) (and-from _ _ (lt-ltb r (f .height) lr) (lt-ltb c (f .width) lc))
 
 -- replacing: a rectangle that is inside, and has its samples, is covered by them
 module _ (H W : ℕ) (a : Rectangle) (n : ℕ) (fits : leaves H W a ≡ false) (room : a .height * a .width ≤ n) where
@@ -70,7 +72,7 @@ replaced-budgeted H W L P a xs x b small = record { small = λ r c lr lc. at r c
 -- the steps up to lifting again, from f through p (the store as it was found), q, o and m to w
 pub reworks : (K : Amounts) (L n : ℕ) (a : Rectangle) (xs : ℕ → ℤ) (f p q o m w : Picture)
     → leaves (f .height) (f .width) a ≡ false → a .height * a .width ≤ n
-    → Same-sides f p → q ≡ overlaid-picture (inside (f .height) (f .width)) (f .number) p
+    → Same-sides f p → q ≡ overlaid-picture everywhere (padded f) p
     → Same-sides q o → Shows-the-rounds-below K L 0 q o
     → m ≡ overlaid-picture (has-sample a n) (patch a xs) o
     → Same-sides m w → Shows-the-transform K L m w → Same-sides f w × Settles K L a xs f w

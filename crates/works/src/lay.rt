@@ -8,41 +8,24 @@ ghost use denote.Ref.{now as held, name};
 ghost use Rattle.std.specs.Options.{Cases};
 ghost use Rattle.overlays.specs.Samples.{samples-at};
 ghost use Rattle.works.specs.Works.{Laid};
-use crate::lent::Lent;
-use crate::lent::LentPlane;
-use crate::lent::LentStore;
 use kernels::kernel::Kernel;
-use lifting::passes::forward;
-use overlays::overlay::overlay;
-use overlays::sources::Patch;
-use overlays::sources::PatchSource;
 use planes::grid::is_covered;
 use planes::level::Level;
 use planes::plane::Plane;
 use planes::plane::Store;
-use planes::rectangle::Rectangle;
+use states::lent::Lent;
+use states::lent::LentPlane;
+use states::lent::LentStore;
+use states::states::Samples;
 
 // Writes the samples and lifts them, in a store by value.
 fn laid<S: Store, K: Kernel>(store: S, kernel: &K, levels: Level, samples: &[u16]) -> S
-    requires enough_samples { ⌜ S·Plane .picture store .height * S·Plane .picture store .width ≤ length (now samples) ⌝ }
     ensures lays { λ r. ⌜ Laid (K·Kernel .amounts (now (kernel .entry))) (levels .number) (samples-at (now (samples .entry))) (S·Plane .picture store) (S·Plane .picture r) (S·Store .bits r) ⌝ }
     ensures leaves_what_lies_under { λ r. ⌜ S·Store .frame false store r ⌝ }
 {
-    let mut store = store;
-    let whole = Rectangle {
-        first_row: 0,
-        first_column: 0,
-        height: store.rows(),
-        width: store.columns(),
-    };
-    overlay(
-        &mut store,
-        &Patch {
-            rectangle: whole,
-            samples,
-        },
-    );
-    forward(store, kernel, levels)
+    Samples::write(store, samples)
+        .lift(kernel, levels)
+        .into_store()
 }
 
 // The same in a store that is lent.
@@ -52,12 +35,11 @@ fn laid_lent<'a, S: Store, K: Kernel>(
     levels: Level,
     samples: &[u16],
 ) -> Lent<'a, S>
-    requires enough_samples { ⌜ S·Plane .picture (now store) .height * S·Plane .picture (now store) .width ≤ length (now samples) ⌝ }
-    ensures is_the_same_loan { λ r. ⌜ name (r .store) ≡ name (store .entry) ⌝ }
-    ensures lays { λ r. ⌜ Laid (K·Kernel .amounts (now (kernel .entry))) (levels .number) (samples-at (now (samples .entry))) (S·Plane .picture (now (store .entry))) (S·Plane .picture (held (r .store))) (S·Store .bits (held (r .store))) ⌝ }
-    ensures leaves_what_lies_under { λ r. ⌜ S·Store .frame false (now (store .entry)) (held (r .store)) ⌝ }
+    ensures is_the_same_loan { λ r. ⌜ name (r .below) ≡ name (store .entry) ⌝ }
+    ensures lays { λ r. ⌜ Laid (K·Kernel .amounts (now (kernel .entry))) (levels .number) (samples-at (now (samples .entry))) (S·Plane .picture (now (store .entry))) (S·Plane .picture (held (r .below))) (S·Store .bits (held (r .below))) ⌝ }
+    ensures leaves_what_lies_under { λ r. ⌜ S·Store .frame false (now (store .entry)) (held (r .below)) ⌝ }
 {
-    laid(Lent { store }, kernel, levels, samples)
+    laid(Lent { below: store }, kernel, levels, samples)
 }
 
 // Lays the picture that samples make, row by row. Where there are fewer samples than places, it answers none and changes nothing.

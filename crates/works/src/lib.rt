@@ -1,5 +1,4 @@
 // The inner work of laying, settling and previewing, over any store and kernel.
 pub mod lay;
-pub mod lent;
 pub mod preview;
 pub mod settle;

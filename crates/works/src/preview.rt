@@ -12,10 +12,6 @@ use faults::fault::Fault;
 use kernels::kernel::Kernel;
 use layers::level::LevelLayer;
 use layers::level::LevelPlane;
-use lifting::passes::inverse;
-use overlays::overlay::overlay;
-use overlays::sources::Copied;
-use overlays::sources::CopiedSource;
 use planes::cell::Cell;
 use planes::copy::copy_fault;
 use planes::copy::copy_out;
@@ -26,6 +22,7 @@ use planes::level::Level;
 use planes::plane::Plane;
 use planes::plane::Store;
 use planes::rectangle::Rectangle;
+use states::states::Cells;
 
 // Works out, in another store, the rounds below a level: the cells of a plane are copied and undone so far.
 fn uncovered<A: Plane, W: Store, K: Kernel>(
@@ -40,9 +37,9 @@ fn uncovered<A: Plane, W: Store, K: Kernel>(
     ensures has_the_same_sides { λ r. ⌜ Same-sides (A·Plane .picture (now (from .entry))) (W·Plane .picture r) ⌝ }
     ensures shows_the_rounds_below { λ r. ⌜ Uncovers (K·Kernel .amounts (now (kernel .entry))) (levels .number) (level .number) (A·Plane .picture (now (from .entry))) (W·Plane .picture r) ⌝ }
 {
-    let mut work = work;
-    overlay(&mut work, &Copied { plane: from });
-    inverse(work, kernel, levels, level)
+    Cells::copy(work, from, levels)
+        .undo(kernel, level)
+        .into_store()
 }
 
 // Copies a rectangle of a level's lattice out.

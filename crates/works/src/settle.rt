@@ -11,15 +11,9 @@ ghost use Rattle.overlays.specs.Samples.{samples-at};
 ghost use Rattle.works.specs.Works.{Same-sides, Settles, Settled, settles-there, cone-of, cone-count};
 use cones::cone::Cone;
 use kernels::kernel::Kernel;
-use lifting::passes::forward;
-use lifting::passes::inverse;
 use overlays::overlay::overlay;
 use overlays::sources::ConeOf;
 use overlays::sources::ConeSource;
-use overlays::sources::Copied;
-use overlays::sources::CopiedSource;
-use overlays::sources::Patch;
-use overlays::sources::PatchSource;
 use planes::cell::Cell;
 use planes::flat::FlatCells;
 use planes::flat::FlatPlane;
@@ -29,6 +23,7 @@ use planes::level::Level;
 use planes::plane::Plane;
 use planes::plane::Store;
 use planes::rectangle::Rectangle;
+use states::states::Cells;
 
 // Works out, in another store, the transform of a plane's picture with a rectangle replaced: the cells are copied and undone, the
 // samples are put, and all is lifted again.
@@ -46,11 +41,11 @@ fn reworked<A: Plane, W: Store, K: Kernel>(
     ensures has_the_same_sides { λ r. ⌜ Same-sides (A·Plane .picture (now (from .entry))) (W·Plane .picture r) ⌝ }
     ensures shows_the_edited_transform { λ r. ⌜ Settles (K·Kernel .amounts (now (kernel .entry))) (levels .number) rectangle (samples-at (now (samples .entry))) (A·Plane .picture (now (from .entry))) (W·Plane .picture r) ⌝ }
 {
-    let mut work = work;
-    overlay(&mut work, &Copied { plane: from });
-    let mut work = inverse(work, kernel, levels, Level { number: 0 });
-    overlay(&mut work, &Patch { rectangle, samples });
-    forward(work, kernel, levels)
+    let before = Cells::copy(work, from, levels).restore(kernel);
+    before
+        .replace(rectangle, samples)
+        .lift(kernel, levels)
+        .into_store()
 }
 
 // The cone of a rectangle that is inside.
