@@ -4,6 +4,7 @@ mod tests {
     use faults::fault::Fault;
     use faults::show::FaultDisplay;
     use pgm::read::read_pgm;
+    use skyplate_job::report::report;
     use std::test::*;
 
     // What reading a file into room for eight samples answers: 0, rows, columns and top, or a fault's number, layer and place, and 0.
@@ -118,5 +119,26 @@ mod tests {
             text.as_str(),
             "fault 16, layer 2, place 0: the place is outside",
         )
+    }
+
+    #[test]
+    fn reports(rt: LibcRuntime) -> Result<(), Fail> {
+        let table: [(&[u8], &[u8]); 7] = [
+            (b"", b"04110100000000EA\n"),
+            (b"P5 1 1 1", b"04110100000008E2\n"),
+            (b"P5 4097 1 1 ", b"04010100000000FA\n"),
+            (b"P5 1 1 0 ", b"04030100000000F8\n"),
+            (b"P5 2 1 255 \x01", b"0412010000000CDD\n"),
+            (b"P5 3 1 9 \x09\x09\x0a", b"04080100000002F1\n"),
+            (
+                b"P5 2 2 300 \x00\x07\x01\x2c\x00\x09\x00\x08",
+                b"2 rows, 2 columns, top 300, samples from 7 to 300\n",
+            ),
+        ];
+        for (i, (bytes, text)) in table.iter().enumerate() {
+            let written = report(rt.alloc(), bytes)?;
+            check_eq((i, written.as_slice()), (i, *text))?;
+        }
+        Ok(())
     }
 }
