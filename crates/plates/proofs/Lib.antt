@@ -5,3 +5,6 @@ pub mod Samples
 pub mod Laying
 pub mod Settling
 pub mod Previewing
+pub mod Stepping
+pub mod Playing
+pub mod Running

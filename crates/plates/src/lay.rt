@@ -14,7 +14,7 @@ use planes::plane::Store;
 
 impl<S: Store, K: Kernel> Plate<S, K> {
     // Lays a picture of samples, row by row: writes every cell and leaves every bit set. It may come again.
-    pub(crate) fn lay(&mut self, plan: Plan, samples: &[u16]) -> Result<(), Fault>
+    pub fn lay(&mut self, plan: Plan, samples: &[u16]) -> Result<(), Fault>
         ensures declines_by_its_own_table { λ r. ⌜ fault-in r ≡ own-fault (seen S·Plane S·Store K·Kernel (now (self .entry))) (laying plan (samples-of (now (samples .entry)))) ⌝ }
         ensures declined_leaves_the_store { λ r. ⌜ (isOk r ≡ false → now (self .exit) .store ≡ now (self .entry) .store) ⌝ }
         ensures follows_the_plain_plate { λ r. ⌜ Follows (laying plan (samples-of (now (samples .entry)))) (seen S·Plane S·Store K·Kernel (now (self .entry))) (seen S·Plane S·Store K·Kernel (now (self .exit))) (answered (λ _. done) r) ⌝ }

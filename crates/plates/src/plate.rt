@@ -8,6 +8,7 @@ ghost use Rattle.model.specs.Calls.{leasing, surrendering, recalling, reading, 
 ghost use Rattle.model.specs.Plain.{Setting, Plain, fresh};
 ghost use Rattle.plates.specs.Shows.{seen, setting-of, own-fault, Shows, Follows, fault-in, answered, leased-as, cell-as, rectangle-at, Cell-below};
 ghost use Rattle.plates.specs.Plans.{lawful-state};
+ghost use Rattle.plates.specs.Runs.{just-made};
 ghost use Rattle.std.specs.Options.{Cases};
 ghost use Rattle.std.specs.Results.{isOk};
 ghost use Rattle.std.specs.declared.option.Option.the-variants.{Some, None};
@@ -29,6 +30,7 @@ impl<S: Store, K: Kernel> Plate<S, K> {
     // A plate just made: unlaid, over a store as it is.
     pub fn new(number: u32, store: S, kernel: K) -> Self
         ensures shows_the_fresh_plain_plate { λ r. ⌜ Shows (setting-of (seen S·Plane S·Store K·Kernel r)) (fresh (setting-of (seen S·Plane S·Store K·Kernel r))) (seen S·Plane S·Store K·Kernel r) ⌝ }
+        ensures is_just_made { λ r. ⌜ seen S·Plane S·Store K·Kernel r ≡ just-made S·Plane S·Store K·Kernel number store kernel ⌝ }
         ensures has_the_number { λ r. ⌜ r .number ≡ number ⌝ }
         ensures keeps_the_store { λ r. ⌜ r .store ≡ store ⌝ }
         ensures keeps_the_kernel { λ r. ⌜ r .kernel ≡ kernel ⌝ }

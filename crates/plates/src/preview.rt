@@ -21,7 +21,7 @@ use planes::rectangle::Rectangle;
 
 impl<S: Store, K: Kernel> Plate<S, K> {
     // Writes a rectangle of the picture's resolution, row by row, into the front of the output.
-    pub(crate) fn preview(
+    pub fn preview(
         &self,
         card: &Card,
         first: LatticePlace,

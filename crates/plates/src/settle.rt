@@ -36,7 +36,7 @@ fn is_end_of_lease(fault: Fault) -> bool
 
 impl<S: Store, K: Kernel> Plate<S, K> {
     // Replaces the leased rectangle by the samples, row by row: puts every cell of its cone and no other, and answers their number.
-    pub(crate) fn settle(
+    pub fn settle(
         &mut self,
         lease: Lease,
         samples: &[u16],

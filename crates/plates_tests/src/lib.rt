@@ -1,0 +1,3 @@
+// Lists of calls on plates over the flat store, with both kernels.
+#[cfg(test)]
+mod runs;
