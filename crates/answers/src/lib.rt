@@ -1,3 +1,5 @@
 // Answers and stores as lines of text.
+#![tactic(auto)]
+
 pub mod lines;
 pub mod stores;

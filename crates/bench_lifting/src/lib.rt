@@ -1,4 +1,6 @@
 // The transforms at the flat store, for a harness in C: forward and inverse, both kernels, and the kernel chosen at run time.
+#![tactic(auto)]
+
 use kernels::choice::KernelChoice;
 use kernels::five_three::FiveThree;
 use kernels::s_transform::STransform;

@@ -1,5 +1,7 @@
 // Tries the library's transform, its inverse, its cones and its edits against a plain transform and the cone's rule, on many plates, and
 // prints how many plates and cells were compared and how many differed.
+#![tactic(auto)]
+
 mod compare;
 mod noise;
 mod plain;

@@ -1,4 +1,6 @@
 // Why a call declines: twenty cases, each with a number, a layer and a place.
+#![tactic(auto)]
+
 pub mod fault;
 pub mod show;
 pub mod tables;

@@ -1,4 +1,6 @@
 // Frames of bytes written as lines of capital hexadecimal, each with a check byte.
+#![tactic(auto)]
+
 ghost use Rattle.std.specs.Prelude.{◌≡◌, ℕ, ◌+◌, ◌*◌, ◌<◌, ◌≤◌, length, MatchOption};
 ghost use Rattle.frames.specs.Frames.{hex_digit, hex_byte, frame_line, fault_frame, two_bytes, four_bytes, over};
 

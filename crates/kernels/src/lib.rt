@@ -1,4 +1,6 @@
 // Kernels: what a lifting step adds or takes away, as code.
+#![tactic(auto)]
+
 pub mod choice;
 pub mod five_three;
 pub mod kernel;

@@ -1,3 +1,5 @@
 // Stores that stand on other stores.
+#![tactic(auto)]
+
 pub mod level;
 pub mod through;

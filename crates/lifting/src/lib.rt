@@ -1,4 +1,6 @@
 // Lifting in place through the level layer, over any store and kernel: `passes` has the transforms, the rest is inside.
+#![tactic(auto)]
+
 mod axis;
 mod levels;
 mod pass;

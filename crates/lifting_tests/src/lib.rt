@@ -1,4 +1,6 @@
 // The transforms and the states at concrete stores and kernels, with worked cases.
+#![tactic(auto)]
+
 pub mod at_work;
 #[cfg(test)]
 mod worked_cases;

@@ -1,4 +1,6 @@
 // Examples of PGM files, good and bad, as tables.
+#![tactic(auto)]
+
 #[cfg(test)]
 mod tests {
     use faults::fault::Fault;

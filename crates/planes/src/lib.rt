@@ -1,4 +1,6 @@
 // Planes and stores: numbers at the places of a rectangle, with and without change bits.
+#![tactic(auto)]
+
 pub mod cell;
 pub mod copy;
 pub mod flat;

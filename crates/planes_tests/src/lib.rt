@@ -1,4 +1,6 @@
 // Tests of planes, stores and the level layer, as tables.
+#![tactic(auto)]
+
 #[cfg(test)]
 mod copies;
 #[cfg(test)]

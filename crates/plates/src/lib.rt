@@ -1,4 +1,6 @@
 // The plate: its calls over any store and any kernel.
+#![tactic(auto)]
+
 pub mod calls;
 mod checks;
 mod lay;

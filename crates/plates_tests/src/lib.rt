@@ -1,3 +1,5 @@
 // Lists of calls on plates over the flat store, with both kernels.
+#![tactic(auto)]
+
 #[cfg(test)]
 mod runs;

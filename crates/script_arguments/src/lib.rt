@@ -1,4 +1,6 @@
 // What stands after the name of a command: words, kernels, numbers and samples; and the mistakes of a line.
+#![tactic(auto)]
+
 pub mod arguments;
 pub mod flaw;
 pub mod mistake;

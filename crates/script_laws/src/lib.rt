@@ -1,4 +1,6 @@
 // What is written is read: theorems, each the contract of a function that does nothing when called.
+#![tactic(auto)]
+
 ghost use Rattle.script_laws.specs.Laws.{DecimalNumbersAreRead, SpacedWordsAreRead, EndedLinesAreRead, WhatIsWrittenIsRead};
 
 pub fn decimal_numbers_are_read()

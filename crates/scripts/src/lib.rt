@@ -1,3 +1,5 @@
 // The workshop's script: from its text to the calls that it states.
+#![tactic(auto)]
+
 mod draft;
 pub mod script;

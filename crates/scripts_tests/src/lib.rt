@@ -1,4 +1,6 @@
 // Scripts with every command and with every mistake.
+#![tactic(auto)]
+
 #[cfg(test)]
 mod commands;
 #[cfg(test)]

@@ -1,3 +1,5 @@
 // The job of the program `skyplate`: from the bytes of a PGM file to the text that it prints.
+#![tactic(auto)]
+
 mod laying;
 pub mod report;

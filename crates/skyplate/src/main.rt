@@ -1,4 +1,6 @@
 // Reads the first 8,192 bytes of standard input as a PGM picture, and prints what the job says of it.
+#![tactic(auto)]
+
 ghost use Rattle.std.specs.Prelude.{◌≤◌, length, IfOk};
 
 use std::io;

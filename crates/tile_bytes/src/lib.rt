@@ -1,4 +1,6 @@
 // Cells of a tile file: where they lie, and how their numbers and change bits are read and written.
+#![tactic(auto)]
+
 pub mod bits;
 pub mod bytes;
 pub mod cells;

@@ -1,4 +1,6 @@
 // Plates kept in tile files on disk.
+#![tactic(auto)]
+
 ghost use Rattle.std.specs.Prelude.{◌≡◌, ◌++◌, IfOk, string_bytes, codes};
 
 use std::alloc::{AllocError, Allocator};

@@ -1,5 +1,7 @@
 // The transform as mathematics. specs/ has the definitions and the statements; each function here has a theorem as its contract,
 // and does nothing when called.
+#![tactic(auto)]
+
 ghost use Rattle.wavelets.specs.Cases.{AddingTheTransformOfTheChangeGives, TransformingTheEditedRowGives, WorkedCasesHold, drifted, settled};
 ghost use Rattle.wavelets.specs.Cone.{depth, in_cone, next};
 ghost use Rattle.wavelets.specs.Counts.{same_bit, same_number};

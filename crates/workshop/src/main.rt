@@ -1,4 +1,6 @@
 // Does the workshop's job from a script on standard input: makes or opens a plate, executes the calls on it, and prints what happened.
+#![tactic(auto)]
+
 use anyhow::anyhow;
 use scripts::script::{Ending, Opening, Script, Trouble, Wrong, read_script};
 use std::io::{Read, Write};

@@ -1,4 +1,6 @@
 // The job of the program `workshop`: from a script to what it prints.
+#![tactic(auto)]
+
 pub mod buffers;
 pub mod endings;
 pub mod filed;
