@@ -17,7 +17,7 @@ pub fn fault_line(heap: Global, fault: Fault) -> Result<String, AllocError>
     let layer = fault.layer().number();
     let place = fault.place();
     let words = fault.words();
-    format!(heap, "fault {number} {layer} {place} {words}\n")
+    format!(in heap; "fault {number} {layer} {place} {words}\n")
 }
 
 // The first numbers of an output, a space before each.
@@ -35,7 +35,7 @@ fn numbers_shown(height: usize, width: usize, output: &[i32]) -> &[i32]
 pub(crate) fn number_text(heap: Global, number: i32) -> Result<String, AllocError>
     ensures is_the_number { IfOk result (λ s. string_bytes s ≡ signed_decimal number) }
 {
-    format!(heap, "{number}")
+    format!(in heap; "{number}")
 }
 
 fn preview_line(heap: Global, numbers: &[i32]) -> Result<String, AllocError>
@@ -43,7 +43,7 @@ fn preview_line(heap: Global, numbers: &[i32]) -> Result<String, AllocError>
 {
     let mut line = String::from_str(heap, "preview")?;
     for number in numbers {
-        line.push_str(&format!(heap, " {number}")?)?;
+        line.push_str(&format!(in heap; " {number}")?)?;
     }
     line.push_str("\n")?;
     Ok(line)
@@ -70,7 +70,7 @@ fn recalled_line(heap: Global, serial: Option<u32>) -> Result<String, AllocError
     ensures names_the_serial_or_none { IfOk result (λ s. string_bytes s ≡ recalled_line serial) }
 {
     match serial {
-        Some(serial) => format!(heap, "recalled {serial}\n"),
+        Some(serial) => format!(in heap; "recalled {serial}\n"),
         None => String::from_str(heap, "recalled none\n"),
     }
 }
@@ -99,8 +99,8 @@ pub fn answer_line(heap: Global, turn: &Turn) -> Result<String, AllocError>
         Answer::Pending => String::from_str(heap, "pending\n"),
         Answer::Declined(fault) => fault_line(heap, fault),
         Answer::Done => done_line(heap, &turn.call),
-        Answer::Leased(plate, serial) => format!(heap, "lease {plate} {serial}\n"),
-        Answer::Settled(count) => format!(heap, "settled {count}\n"),
+        Answer::Leased(plate, serial) => format!(in heap; "lease {plate} {serial}\n"),
+        Answer::Settled(count) => format!(in heap; "settled {count}\n"),
         Answer::Recalled(serial) => recalled_line(heap, serial),
         Answer::CellRead(number, bit) => cell_line(heap, number, bit),
     }

@@ -50,7 +50,7 @@ pub fn store_text<S: Store>(heap: Global, store: &S) -> Result<String, AllocErro
 {
     let rows = store.rows();
     let columns = store.columns();
-    let mut text = format!(heap, "store {rows} {columns}\n")?;
+    let mut text = format!(in heap; "store {rows} {columns}\n")?;
     for row in 0..rows {
         text.push_str(&row_line(heap, store, row)?)?;
     }

@@ -55,7 +55,7 @@ fn first_sample_over(samples: &[u16], top: usize) -> usize
 
 impl<S: Store, K: Kernel> Plate<S, K> {
     pub(crate) fn laying_fault(&self, plan: Plan, samples: &[u16]) -> Option<Fault>
-        ensures is_the_first_row_that_holds { result ≡ own_fault (seen S.Plane S.Store K.Kernel self.now) (laying plan (samples_of samples.now)) }
+        ensures is_the_first_row_that_holds { result ≡ own_fault (seen S.Plane S.Store.own K.Kernel self.now) (laying plan (samples_of samples.now)) }
         ensures passes_a_lawful_plan { result ≡ None → lawful_plan plan ≡ true }
         ensures passes_no_lease { result ≡ None → self.now.lease ≡ None }
         ensures passes_five_levels_at_most { result ≡ None → plan.levels ≤ 5 }
@@ -88,7 +88,7 @@ impl<S: Store, K: Kernel> Plate<S, K> {
         samples: &[u16],
         records: usize,
     ) -> Option<Fault>
-        ensures is_the_first_row_that_holds { result ≡ own_fault (seen S.Plane S.Store K.Kernel self.now) (settling plate serial (samples_of samples.now) records) }
+        ensures is_the_first_row_that_holds { result ≡ own_fault (seen S.Plane S.Store.own K.Kernel self.now) (settling plate serial (samples_of samples.now) records) }
     {
         let (Some(plan), Some(rectangle)) = (self.plan, self.lease) else {
             return Some(Fault::WrongLease);
@@ -112,7 +112,7 @@ impl<S: Store, K: Kernel> Plate<S, K> {
         records: usize,
         room: usize,
     ) -> Option<Fault>
-        ensures is_the_first_row_that_holds { result ≡ own_fault (seen S.Plane S.Store K.Kernel self.now) (previewing card.now rectangle records room) }
+        ensures is_the_first_row_that_holds { result ≡ own_fault (seen S.Plane S.Store.own K.Kernel self.now) (previewing card.now rectangle records room) }
     {
         let Some(plan) = self.plan else {
             return Some(Fault::Unlaid);

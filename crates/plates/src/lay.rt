@@ -13,9 +13,9 @@ use planes::plane::{Plane, Store};
 impl<S: Store, K: Kernel> Plate<S, K> {
     // Lays a picture of samples, row by row: writes every cell and leaves every bit set. It may come again.
     pub fn lay(&mut self, plan: Plan, samples: &[u16]) -> Result<(), Fault>
-        ensures declines_by_its_own_table { fault_in result ≡ own_fault (seen S.Plane S.Store K.Kernel self.old) (laying plan (samples_of samples.now)) }
+        ensures declines_by_its_own_table { fault_in result ≡ own_fault (seen S.Plane S.Store.own K.Kernel self.old) (laying plan (samples_of samples.now)) }
         ensures declined_leaves_the_store { is_ok result ≡ false → self.new.store ≡ self.old.store }
-        ensures follows_the_plain_plate { Follows (laying plan (samples_of samples.now)) (seen S.Plane S.Store K.Kernel self.old) (seen S.Plane S.Store K.Kernel self.new) (answered (λ _. done) result) }
+        ensures follows_the_plain_plate { Follows (laying plan (samples_of samples.now)) (seen S.Plane S.Store.own K.Kernel self.old) (seen S.Plane S.Store.own K.Kernel self.new) (answered (λ _. done) result) }
         ensures keeps_the_kernel { self.new.kernel ≡ self.old.kernel }
     {
         if let Some(fault) = self.laying_fault(plan, samples) {

@@ -21,8 +21,8 @@ use planes::rectangle::Rectangle;
 impl<S: Store, K: Kernel> Plate<S, K> {
     // A plate just made: unlaid, over a store as it is.
     pub fn new(number: u32, store: S, kernel: K) -> Self
-        ensures shows_the_fresh_plain_plate { Shows (setting_of (seen S.Plane S.Store K.Kernel result)) (fresh (setting_of (seen S.Plane S.Store K.Kernel result))) (seen S.Plane S.Store K.Kernel result) }
-        ensures is_just_made { seen S.Plane S.Store K.Kernel result ≡ just_made S.Plane S.Store K.Kernel number store kernel }
+        ensures shows_the_fresh_plain_plate { Shows (setting_of (seen S.Plane S.Store.own K.Kernel result)) (fresh (setting_of (seen S.Plane S.Store.own K.Kernel result))) (seen S.Plane S.Store.own K.Kernel result) }
+        ensures is_just_made { seen S.Plane S.Store.own K.Kernel result ≡ just_made S.Plane S.Store.own K.Kernel number store kernel }
         ensures has_the_number { result.number ≡ number }
         ensures keeps_the_store { result.store ≡ store }
         ensures keeps_the_kernel { result.kernel ≡ kernel }
@@ -57,7 +57,7 @@ impl<S: Store, K: Kernel> Plate<S, K> {
     // Ends the lease that is out, if one is, and answers its serial.
     pub fn recall(&mut self) -> Option<u32>
         ensures leaves_the_store { self.new.store ≡ self.old.store }
-        ensures follows_the_plain_plate { Follows recalling (seen S.Plane S.Store K.Kernel self.old) (seen S.Plane S.Store K.Kernel self.new) (recalled result) }
+        ensures follows_the_plain_plate { Follows recalling (seen S.Plane S.Store.own K.Kernel self.old) (seen S.Plane S.Store.own K.Kernel self.new) (recalled result) }
         ensures keeps_the_kernel { self.new.kernel ≡ self.old.kernel }
     {
         match self.lease {
@@ -71,7 +71,7 @@ impl<S: Store, K: Kernel> Plate<S, K> {
 
     // Whether the lease of these two numbers is the one that is out.
     fn surrender_fault(&self, plate: u32, serial: u32) -> Option<Fault>
-        ensures is_the_first_row_that_holds { result ≡ own_fault (seen S.Plane S.Store K.Kernel self.now) (surrendering plate serial) }
+        ensures is_the_first_row_that_holds { result ≡ own_fault (seen S.Plane S.Store.own K.Kernel self.now) (surrendering plate serial) }
     {
         if self.lease.is_none() || plate != self.number || serial != self.serial {
             return Some(Fault::WrongLease);
@@ -81,9 +81,9 @@ impl<S: Store, K: Kernel> Plate<S, K> {
 
     // Ends the lease, unsettled.
     pub fn surrender(&mut self, lease: Lease) -> Result<(), Fault>
-        ensures declines_by_its_own_table { fault_in result ≡ own_fault (seen S.Plane S.Store K.Kernel self.old) (surrendering lease.plate lease.serial) }
+        ensures declines_by_its_own_table { fault_in result ≡ own_fault (seen S.Plane S.Store.own K.Kernel self.old) (surrendering lease.plate lease.serial) }
         ensures leaves_the_store { self.new.store ≡ self.old.store }
-        ensures follows_the_plain_plate { Follows (surrendering lease.plate lease.serial) (seen S.Plane S.Store K.Kernel self.old) (seen S.Plane S.Store K.Kernel self.new) (answered (λ _. done) result) }
+        ensures follows_the_plain_plate { Follows (surrendering lease.plate lease.serial) (seen S.Plane S.Store.own K.Kernel self.old) (seen S.Plane S.Store.own K.Kernel self.new) (answered (λ _. done) result) }
         ensures keeps_the_kernel { self.new.kernel ≡ self.old.kernel }
     {
         let (plate, serial) = lease.spent();
@@ -96,7 +96,7 @@ impl<S: Store, K: Kernel> Plate<S, K> {
 
     // Why a leasing is declined, if it is.
     fn leasing_fault(&self, rectangle: Rectangle) -> Option<Fault>
-        ensures is_the_first_row_that_holds { result ≡ own_fault (seen S.Plane S.Store K.Kernel self.now) (leasing rectangle) }
+        ensures is_the_first_row_that_holds { result ≡ own_fault (seen S.Plane S.Store.own K.Kernel self.now) (leasing rectangle) }
         ensures passes_a_lawful_lease { result ≡ None → lawful_state self.now.plan (Some rectangle) ≡ true }
         ensures passes_a_serial_to_give { result ≡ None → self.now.serial < 65535 }
     {
@@ -117,9 +117,9 @@ impl<S: Store, K: Kernel> Plate<S, K> {
 
     // Leases a rectangle of the plate under the next serial.
     pub fn lease(&mut self, first: PlatePlace, height: usize, width: usize) -> Result<Lease, Fault>
-        ensures declines_by_its_own_table { fault_in result ≡ own_fault (seen S.Plane S.Store K.Kernel self.old) (leasing (rectangle_at first height width)) }
+        ensures declines_by_its_own_table { fault_in result ≡ own_fault (seen S.Plane S.Store.own K.Kernel self.old) (leasing (rectangle_at first height width)) }
         ensures leaves_the_store { self.new.store ≡ self.old.store }
-        ensures follows_the_plain_plate { Follows (leasing (rectangle_at first height width)) (seen S.Plane S.Store K.Kernel self.old) (seen S.Plane S.Store K.Kernel self.new) (answered leased_as result) }
+        ensures follows_the_plain_plate { Follows (leasing (rectangle_at first height width)) (seen S.Plane S.Store.own K.Kernel self.old) (seen S.Plane S.Store.own K.Kernel self.new) (answered leased_as result) }
         ensures keeps_the_kernel { self.new.kernel ≡ self.old.kernel }
     {
         let rectangle = Rectangle {
@@ -137,7 +137,7 @@ impl<S: Store, K: Kernel> Plate<S, K> {
     }
 
     fn clearing_fault(&self) -> Option<Fault>
-        ensures is_the_first_row_that_holds { result ≡ own_fault (seen S.Plane S.Store K.Kernel self.now) clearing }
+        ensures is_the_first_row_that_holds { result ≡ own_fault (seen S.Plane S.Store.own K.Kernel self.now) clearing }
     {
         if self.plan.is_none() {
             Some(Fault::Unlaid)
@@ -148,9 +148,9 @@ impl<S: Store, K: Kernel> Plate<S, K> {
 
     // Unsets all change bits.
     pub fn clear(&mut self) -> Result<(), Fault>
-        ensures declines_by_its_own_table { fault_in result ≡ own_fault (seen S.Plane S.Store K.Kernel self.old) clearing }
+        ensures declines_by_its_own_table { fault_in result ≡ own_fault (seen S.Plane S.Store.own K.Kernel self.old) clearing }
         ensures declined_leaves_the_store { is_ok result ≡ false → self.new.store ≡ self.old.store }
-        ensures follows_the_plain_plate { Follows clearing (seen S.Plane S.Store K.Kernel self.old) (seen S.Plane S.Store K.Kernel self.new) (answered (λ _. done) result) }
+        ensures follows_the_plain_plate { Follows clearing (seen S.Plane S.Store.own K.Kernel self.old) (seen S.Plane S.Store.own K.Kernel self.new) (answered (λ _. done) result) }
         ensures keeps_the_kernel { self.new.kernel ≡ self.old.kernel }
     {
         if let Some(fault) = self.clearing_fault() {
@@ -162,7 +162,7 @@ impl<S: Store, K: Kernel> Plate<S, K> {
 
     // Why a reading is declined, if it is.
     fn reading_fault(&self, card: &Card, at: LatticePlace) -> Option<Fault>
-        ensures is_the_first_row_that_holds { result ≡ own_fault (seen S.Plane S.Store K.Kernel self.now) (reading card.now at.row at.column) }
+        ensures is_the_first_row_that_holds { result ≡ own_fault (seen S.Plane S.Store.own K.Kernel self.now) (reading card.now at.row at.column) }
     {
         let Some(plan) = self.plan else {
             return Some(Fault::Unlaid);
@@ -178,8 +178,8 @@ impl<S: Store, K: Kernel> Plate<S, K> {
 
     // The number and the bit of the cell at a place of the level in hand.
     pub fn read(&self, card: &Card, at: LatticePlace) -> Result<(i32, bool), Fault>
-        ensures declines_by_its_own_table { fault_in result ≡ own_fault (seen S.Plane S.Store K.Kernel self.now) (reading card.now at.row at.column) }
-        ensures follows_the_plain_plate { Follows (reading card.now at.row at.column) (seen S.Plane S.Store K.Kernel self.now) (seen S.Plane S.Store K.Kernel self.now) (answered cell_as result) }
+        ensures declines_by_its_own_table { fault_in result ≡ own_fault (seen S.Plane S.Store.own K.Kernel self.now) (reading card.now at.row at.column) }
+        ensures follows_the_plain_plate { Follows (reading card.now at.row at.column) (seen S.Plane S.Store.own K.Kernel self.now) (seen S.Plane S.Store.own K.Kernel self.now) (answered cell_as result) }
     {
         if let Some(fault) = self.reading_fault(card, at) {
             return Err(fault);
@@ -200,7 +200,7 @@ pub(crate) fn level_in_hand(card: &Card, plan: Plan) -> Option<Level>
 
 // The number and the bit of a cell; 0 and unset outside, and off any level.
 fn cell_at<S: Store>(store: &S, level: usize, at: LatticePlace) -> (i32, bool)
-    ensures is_the_cell_below { CellBelow S.Plane S.Store store.now level at.row at.column result.0 result.1 }
+    ensures is_the_cell_below { CellBelow S.Plane S.Store.own store.now level at.row at.column result.0 result.1 }
 {
     let rows = store.rows();
     let columns = store.columns();

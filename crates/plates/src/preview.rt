@@ -25,12 +25,12 @@ impl<S: Store, K: Kernel> Plate<S, K> {
         scratch: &mut [Cell],
         output: &mut [i32],
     ) -> Result<(), Fault>
-        ensures declines_by_its_own_table { fault_in result ≡ own_fault (seen S.Plane S.Store K.Kernel self.now) (previewing card.now (lattice_rectangle first height width) (length scratch.old) (length output.old)) }
+        ensures declines_by_its_own_table { fault_in result ≡ own_fault (seen S.Plane S.Store.own K.Kernel self.now) (previewing card.now (lattice_rectangle first height width) (length scratch.old) (length output.old)) }
         ensures declined_leaves_the_scratch { is_ok result ≡ false → scratch.new ≡ scratch.old }
         ensures declined_leaves_the_output { is_ok result ≡ false → output.new ≡ output.old }
         ensures leaves_the_rest_of_the_output { (m : ℕ) → height * width ≤ m → slice_index_or output.new m (pos 0) ≡ slice_index_or output.old m (pos 0) }
-        ensures follows_the_plain_plate { Follows (previewing card.now (lattice_rectangle first height width) (length scratch.old) (length output.old)) (seen S.Plane S.Store K.Kernel self.now) (seen S.Plane S.Store K.Kernel self.now) (answered (λ _. done) result) }
-        ensures shows_the_resolution { (s : Setting) (p : Plain) → Shows s p (seen S.Plane S.Store K.Kernel self.now) → is_ok result ≡ true → preview_differences s p card.now (lattice_rectangle first height width) output.new ≡ 0 }
+        ensures follows_the_plain_plate { Follows (previewing card.now (lattice_rectangle first height width) (length scratch.old) (length output.old)) (seen S.Plane S.Store.own K.Kernel self.now) (seen S.Plane S.Store.own K.Kernel self.now) (answered (λ _. done) result) }
+        ensures shows_the_resolution { (s : Setting) (p : Plain) → Shows s p (seen S.Plane S.Store.own K.Kernel self.now) → is_ok result ≡ true → preview_differences s p card.now (lattice_rectangle first height width) output.new ≡ 0 }
     {
         let rectangle = Rectangle {
             first_row: first.row,

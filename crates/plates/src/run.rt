@@ -42,7 +42,7 @@ fn cell_or_declined(res: Result<(i32, bool), Fault>) -> Answer
 
 // One call of a list.
 fn step<S: Store, K: Kernel>(plate: &mut Plate<S, K>, call: &mut Call) -> Answer
-    ensures does_the_call { Stepped call.old call.new result (seen S.Plane S.Store K.Kernel plate.old) (seen S.Plane S.Store K.Kernel plate.new) }
+    ensures does_the_call { Stepped call.old call.new result (seen S.Plane S.Store.own K.Kernel plate.old) (seen S.Plane S.Store.own K.Kernel plate.new) }
     ensures keeps_the_kernel { plate.new.kernel ≡ plate.old.kernel }
 {
     match call {
@@ -87,7 +87,7 @@ fn step<S: Store, K: Kernel>(plate: &mut Plate<S, K>, call: &mut Call) -> Answer
 
 // One call of a list, and its answer beside it.
 fn turn_over<S: Store, K: Kernel>(plate: &mut Plate<S, K>, turn: &mut Turn)
-    ensures does_the_call { Stepped turn.old.call turn.new.call turn.new.answer (seen S.Plane S.Store K.Kernel plate.old) (seen S.Plane S.Store K.Kernel plate.new) }
+    ensures does_the_call { Stepped turn.old.call turn.new.call turn.new.answer (seen S.Plane S.Store.own K.Kernel plate.old) (seen S.Plane S.Store.own K.Kernel plate.new) }
     ensures keeps_the_kernel { plate.new.kernel ≡ plate.old.kernel }
 {
     turn.answer = step(plate, &mut turn.call);
@@ -95,7 +95,7 @@ fn turn_over<S: Store, K: Kernel>(plate: &mut Plate<S, K>, turn: &mut Turn)
 
 // The calls of a list, one after the other.
 fn play<S: Store, K: Kernel>(plate: &mut Plate<S, K>, turns: &mut [Turn])
-    ensures does_each_call { Steps (seen S.Plane S.Store K.Kernel plate.old) turns.old turns.new (seen S.Plane S.Store K.Kernel plate.new) }
+    ensures does_each_call { Steps (seen S.Plane S.Store.own K.Kernel plate.old) turns.old turns.new (seen S.Plane S.Store.own K.Kernel plate.new) }
     ensures keeps_the_kernel { plate.new.kernel ≡ plate.old.kernel }
 {
     for i in 0..turns.len() {
@@ -105,7 +105,7 @@ fn play<S: Store, K: Kernel>(plate: &mut Plate<S, K>, turns: &mut [Turn])
 
 // Makes a plate, executes a list of calls on it, and hands the plate back. Each call's answer then stands beside it.
 pub fn run<S: Store, K: Kernel>(number: u32, store: S, kernel: K, turns: &mut [Turn]) -> Plate<S, K>
-    ensures after_every_call_nothing_differs { Ran (setting_of (just_made S.Plane S.Store K.Kernel number store kernel)) [] (just_made S.Plane S.Store K.Kernel number store kernel) turns.old turns.new (seen S.Plane S.Store K.Kernel result) }
+    ensures after_every_call_nothing_differs { Ran (setting_of (just_made S.Plane S.Store.own K.Kernel number store kernel)) [] (just_made S.Plane S.Store.own K.Kernel number store kernel) turns.old turns.new (seen S.Plane S.Store.own K.Kernel result) }
     ensures has_the_kernel { result.kernel ≡ kernel }
 {
     let mut plate = Plate::new(number, store, kernel);

@@ -38,10 +38,10 @@ impl<S: Store, K: Kernel> Plate<S, K> {
         samples: &[u16],
         scratch: &mut [Cell],
     ) -> Result<usize, Fault>
-        ensures declines_by_its_own_table { fault_in result ≡ own_fault (seen S.Plane S.Store K.Kernel self.old) (settling lease.plate lease.serial (samples_of samples.now) (length scratch.old)) }
+        ensures declines_by_its_own_table { fault_in result ≡ own_fault (seen S.Plane S.Store.own K.Kernel self.old) (settling lease.plate lease.serial (samples_of samples.now) (length scratch.old)) }
         ensures declined_leaves_the_store { is_ok result ≡ false → self.new.store ≡ self.old.store }
         ensures declined_leaves_the_scratch { is_ok result ≡ false → scratch.new ≡ scratch.old }
-        ensures follows_the_plain_plate { Follows (settling lease.plate lease.serial (samples_of samples.now) (length scratch.old)) (seen S.Plane S.Store K.Kernel self.old) (seen S.Plane S.Store K.Kernel self.new) (answered settled result) }
+        ensures follows_the_plain_plate { Follows (settling lease.plate lease.serial (samples_of samples.now) (length scratch.old)) (seen S.Plane S.Store.own K.Kernel self.old) (seen S.Plane S.Store.own K.Kernel self.new) (answered settled result) }
         ensures keeps_the_kernel { self.new.kernel ≡ self.old.kernel }
     {
         let (plate, serial) = lease.spent();

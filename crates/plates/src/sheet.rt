@@ -33,11 +33,11 @@ fn head_of(issue: u16, code: u8, plan: Plan) -> Head
 impl<S: Store, K: Kernel> Plate<S, K> {
     // Writes the sheet of the changed cells into the front of the output, and answers its length.
     pub fn sheet(&self, issue: u16, out: &mut [u8]) -> Result<usize, Fault>
-        ensures declines_by_its_own_table { fault_in result ≡ first_fault (sheet_table self.now.plan (own_sheet issue (K.Kernel.code self.now.kernel) (seen S.Plane S.Store K.Kernel self.now)) (length out.old)) }
+        ensures declines_by_its_own_table { fault_in result ≡ first_fault (sheet_table self.now.plan (own_sheet issue (K.Kernel.code self.now.kernel) (seen S.Plane S.Store.own K.Kernel self.now)) (length out.old)) }
         ensures declined_leaves_the_output { is_ok result ≡ false → out.new ≡ out.old }
-        ensures writes_the_sheet_of_its_cells { IfOk result (λ n. (n ≡ length (own_sheet issue (K.Kernel.code self.now.kernel) (seen S.Plane S.Store K.Kernel self.now)))
-            × (out.new ≡ over out.old 0 (own_sheet issue (K.Kernel.code self.now.kernel) (seen S.Plane S.Store K.Kernel self.now)))) }
-        ensures writes_the_sheet_of_the_plain_plate { (s : Setting) (p : Plain) → Shows s p (seen S.Plane S.Store K.Kernel self.now)
+        ensures writes_the_sheet_of_its_cells { IfOk result (λ n. (n ≡ length (own_sheet issue (K.Kernel.code self.now.kernel) (seen S.Plane S.Store.own K.Kernel self.now)))
+            × (out.new ≡ over out.old 0 (own_sheet issue (K.Kernel.code self.now.kernel) (seen S.Plane S.Store.own K.Kernel self.now)))) }
+        ensures writes_the_sheet_of_the_plain_plate { (s : Setting) (p : Plain) → Shows s p (seen S.Plane S.Store.own K.Kernel self.now)
             → Sheeted p.plan (plain_sheet issue (K.Kernel.code self.now.kernel) s p) out.old out.new result }
     {
         let Some(plan) = self.plan else {

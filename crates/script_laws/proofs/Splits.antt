@@ -2,7 +2,7 @@
 use Rattle.std.proofs.Common.{◌≡◌, ℕ, ◌^◌, ◌<◌, ◌≤◌, Bool, true, false, cond, not, ◌&&◌, eqb, leb, List, [], ◌∷◌, ◌++◌, map, length, Some, None, decimal, Option, sym, refl, ap, ◌∙◌, append_assoc, arith, rules}
 use Rattle.std.specs.List.{flat_map, AllByRecursion as All}
 use Rattle.std.proofs.lemmas.List.{append-nil}
-use Rattle.std.proofs.lemmas.Bool.{and_parts, and_from, not_true, not_from_false, eq-eqb, ne_eqb, le-leb, leb-true, cond-true, cond-false}
+use Rattle.std.proofs.lemmas.Bool.{and_parts, and_from, not-true, not_from_false, eq-eqb, ne_eqb, le-leb, leb-true, cond-true, cond-false}
 use Rattle.std.proofs.lemmas.Bool.Decides.{nat_tests}
 use Rattle.std.proofs.lemmas.Str.Parse.{IsNumeralModel, numerals_by_fold}
 use Rattle.std.proofs.lemmas.Fmt.{digits_decimal, digits_value-decimal, decimal_nonempty}
@@ -17,14 +17,14 @@ unfolding pieces without
 ended_piece end [] rest free = cond-true (eqb end end) _ _ (eq-eqb end end refl)
 ended_piece end (b ∷ p) rest free =
     let parts = and_parts (not (eqb b end)) (without end p) free in
-    cond-false (eqb b end) _ _ (not_true (eqb b end) parts.0) ∙ ap (onto_first b) (ended_piece end p rest parts.1)
+    cond-false (eqb b end) _ _ (not-true (eqb b end) parts.0) ∙ ap (onto_first b) (ended_piece end p rest parts.1)
 
 pub last_piece : (end b : ℕ) (p : List ℕ) → without end (b ∷ p) ≡ true → pieces end (b ∷ p) ≡ (b ∷ p) ∷ []
 unfolding pieces without
-last_piece end b [] free = cond-false (eqb b end) _ _ (not_true (eqb b end) (and_parts (not (eqb b end)) true free).0)
+last_piece end b [] free = cond-false (eqb b end) _ _ (not-true (eqb b end) (and_parts (not (eqb b end)) true free).0)
 last_piece end b (d ∷ p) free =
     let parts = and_parts (not (eqb b end)) (without end (d ∷ p)) free in
-    cond-false (eqb b end) _ _ (not_true (eqb b end) parts.0) ∙ ap (onto_first b) (last_piece end d p parts.1)
+    cond-false (eqb b end) _ _ (not-true (eqb b end) parts.0) ∙ ap (onto_first b) (last_piece end d p parts.1)
 
 pub without_append : (end : ℕ) (p q : List ℕ) → without end p ≡ true → without end q ≡ true → without end (p ++ q) ≡ true
 unfolding without

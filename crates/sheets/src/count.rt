@@ -61,7 +61,7 @@ fn count_row<S: Store>(store: &S, row: usize, columns: usize) -> Counts
 // The runs and the cells of a whole sheet; every such number has a place in 128 bits.
 pub(crate) fn count_rows<S: Store>(store: &S) -> Counts
     ensures counts_the_runs { result.runs ≡ length (runs_of (S.Store.bits store.now) (S.Plane.picture store.now).height (S.Plane.picture store.now).width) }
-    ensures counts_the_cells { result.cells ≡ length (changed_of S.Plane S.Store store.now) }
+    ensures counts_the_cells { result.cells ≡ length (changed_of S.Plane S.Store.own store.now) }
 {
     let columns = store.columns();
     let mut counts = Counts::NONE;

@@ -52,9 +52,9 @@ fn write_ended<S: Store>(store: &S, ended: Option<Run>, out: &mut [u8], at: usiz
 fn write_row<S: Store>(store: &S, row: usize, columns: usize, out: &mut [u8], start: usize) -> usize
     requires a_row { row < (S.Plane.picture store.now).height }
     requires all_columns { columns ≡ (S.Plane.picture store.now).width }
-    requires room { start + length (row_lines S.Plane S.Store store.now row columns) ≤ length out.old }
-    ensures writes_the_rows_lines { out.new ≡ over out.old start (row_lines S.Plane S.Store store.now row columns) }
-    ensures answers_their_end { result ≡ start + length (row_lines S.Plane S.Store store.now row columns) }
+    requires room { start + length (row_lines S.Plane S.Store.own store.now row columns) ≤ length out.old }
+    ensures writes_the_rows_lines { out.new ≡ over out.old start (row_lines S.Plane S.Store.own store.now row columns) }
+    ensures answers_their_end { result ≡ start + length (row_lines S.Plane S.Store.own store.now row columns) }
 {
     let mut at = start;
     let mut begun = 0;
@@ -68,9 +68,9 @@ fn write_row<S: Store>(store: &S, row: usize, columns: usize, out: &mut [u8], st
 
 // Writes the lines of all runs, which are known to have room, and answers where they end.
 fn write_rows<S: Store>(store: &S, out: &mut [u8], start: usize) -> usize
-    requires { start + length (all_lines S.Plane S.Store store.now) ≤ length out.old }
-    ensures writes_the_lines { out.new ≡ over out.old start (all_lines S.Plane S.Store store.now) }
-    ensures answers_their_end { result ≡ start + length (all_lines S.Plane S.Store store.now) }
+    requires { start + length (all_lines S.Plane S.Store.own store.now) ≤ length out.old }
+    ensures writes_the_lines { out.new ≡ over out.old start (all_lines S.Plane S.Store.own store.now) }
+    ensures answers_their_end { result ≡ start + length (all_lines S.Plane S.Store.own store.now) }
 {
     let columns = store.columns();
     let mut at = start;
@@ -82,8 +82,8 @@ fn write_rows<S: Store>(store: &S, out: &mut [u8], start: usize) -> usize
 
 // How many cells the sheet of a store has, if it has at most so many bytes.
 fn cells_that_fit<S: Store>(store: &S, room: usize) -> Option<usize>
-    ensures tells_whether_there_is_room { (head : Head) → HasRoom (sheet_of S.Plane S.Store store.now head) room result }
-    ensures counts_the_changed_cells { IfSome result (λ n. n ≡ length (changed_of S.Plane S.Store store.now)) }
+    ensures tells_whether_there_is_room { (head : Head) → HasRoom (sheet_of S.Plane S.Store.own store.now head) room result }
+    ensures counts_the_changed_cells { IfSome result (λ n. n ≡ length (changed_of S.Plane S.Store.own store.now)) }
 {
     let counts = count_rows(store);
     if counts.fit(room) {
@@ -95,10 +95,10 @@ fn cells_that_fit<S: Store>(store: &S, room: usize) -> Option<usize>
 
 // Writes the sheet of so many cells, which is known to have room, and answers its length.
 fn put_sheet<S: Store>(store: &S, head: Head, cells: usize, out: &mut [u8]) -> usize
-    requires room { length (sheet_of S.Plane S.Store store.now head) ≤ length out.old }
-    requires its_cells { cells ≡ length (changed_of S.Plane S.Store store.now) }
-    ensures writes_the_sheet { out.new ≡ over out.old 0 (sheet_of S.Plane S.Store store.now head) }
-    ensures answers_its_length { result ≡ length (sheet_of S.Plane S.Store store.now head) }
+    requires room { length (sheet_of S.Plane S.Store.own store.now head) ≤ length out.old }
+    requires its_cells { cells ≡ length (changed_of S.Plane S.Store.own store.now) }
+    ensures writes_the_sheet { out.new ≡ over out.old 0 (sheet_of S.Plane S.Store.own store.now head) }
+    ensures answers_its_length { result ≡ length (sheet_of S.Plane S.Store.own store.now head) }
 {
     let at = put_line(out, 0, &head.frame());
     let at = write_rows(store, out, at);
@@ -108,7 +108,7 @@ fn put_sheet<S: Store>(store: &S, head: Head, cells: usize, out: &mut [u8]) -> u
 // Writes the sheet of a store's changed cells into the front of an output, and answers its length; none where it is longer than the
 // output, and then nothing is written.
 pub fn write_sheet<S: Store>(store: &S, head: Head, out: &mut [u8]) -> Option<usize>
-    ensures writes_the_sheet_where_it_fits { Writes (sheet_of S.Plane S.Store store.now head) out.old out.new result }
+    ensures writes_the_sheet_where_it_fits { Writes (sheet_of S.Plane S.Store.own store.now head) out.old out.new result }
 {
     let cells = cells_that_fit(store, out.len())?;
     Some(put_sheet(store, head, cells, out))

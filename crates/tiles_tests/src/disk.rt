@@ -6,8 +6,8 @@ use tile_disk::{read_plate, write_plate};
 #[test]
 fn a_file_is_replaced_whole(rt: HostRuntime) -> Result<(), Fail> {
     let id = process::id(rt.process());
-    let path = format!(rt.alloc(), "/tmp/tile_disk_test_{id}")?;
-    let beside = format!(rt.alloc(), "/tmp/tile_disk_test_{id}.new")?;
+    let path = format!(in rt.alloc(); "/tmp/tile_disk_test_{id}")?;
+    let beside = format!(in rt.alloc(); "/tmp/tile_disk_test_{id}.new")?;
     let path = path.as_str();
     assert!(rt; read_plate(&rt, path).is_err());
     write_plate(&rt, path, b"the first file")?;

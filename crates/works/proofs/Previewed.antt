@@ -3,7 +3,7 @@ use Rattle.std.proofs.Common.{◌≡◌, ℕ, ◌+◌, ◌*◌, ◌/◌, ◌%◌
 use native.Mathlib.Nat.{min-eq_left}
 use Rattle.std.proofs.lemmas.Bool.Decides.{nat_tests}
 use Rattle.std.proofs.lemmas.Nat.{div_below}
-use Rattle.std.proofs.lemmas.Bool.{cond-true, cond-false, lt-ltb, le-ltb, leb-true, and_parts, and_from, and_right, not_true, both_ways}
+use Rattle.std.proofs.lemmas.Bool.{cond-true, cond-false, lt-ltb, le-ltb, leb-true, and_parts, and_from, and_right, not-true, both_ways}
 use Rattle.faults.specs.declared.fault.Fault.{Fault}
 use Rattle.planes.specs.Planes.{Picture}
 use Rattle.planes.specs.Rectangles.{leaves}
@@ -73,4 +73,4 @@ pub record CanPreview (R C L k : ℕ) (a : Rectangle) (n m : ℕ) : Type 0 where
 pub can_preview : (R C L k : ℕ) (a : Rectangle) (n m : ℕ) → true ≡ previews_there R C L k a n m → CanPreview R C L k a n m
 can_preview R C L k a n m h =
     let x = and_parts _ _ (sym h) in let y = and_parts _ _ x.0 in
-    record { level = leb-true _ _ y.0; output = not_true _ y.1; scratch = not_true _ x.1 }
+    record { level = leb-true _ _ y.0; output = not-true _ y.1; scratch = not-true _ x.1 }

@@ -3,7 +3,7 @@ use Rattle.std.proofs.Common.{◌≡◌, ℕ, ◌-◌, ◌*◌, ◌<◌, ◌≤�
 use native.Mathlib.Nat.{zero-min}
 use Rattle.std.proofs.lemmas.Bool.Decides.{nat_tests}
 use Rattle.std.proofs.lemmas.Nat.{mul-add-lt}
-use Rattle.std.proofs.lemmas.Bool.{cond-true, cond-false, lt-ltb, ltb-false, leb-true, le-leb, and_from, and_left, and_parts, or_parts, not_true, false≢true}
+use Rattle.std.proofs.lemmas.Bool.{cond-true, cond-false, lt-ltb, ltb-false, leb-true, le-leb, and_from, and_left, and_parts, or_parts, not-true, false≢true}
 use Rattle.planes.specs.Planes.{Cells, Picture}
 use Rattle.faults.specs.declared.fault.Fault.{Fault}
 use Rattle.planes.specs.Rectangles.{leaves}
@@ -144,7 +144,7 @@ pub record CanSettle (R C : ℕ) (a : Rectangle) (n m : ℕ) : Type 0 where
 pub can_settle : (R C : ℕ) (a : Rectangle) (n m : ℕ) → true ≡ settles_there R C a n m → CanSettle R C a n m
 can_settle R C a n m h =
     let x = and_parts _ _ (sym h) in let y = and_parts _ _ x.0 in
-    record { inner = not_true _ y.0; samples = leb-true _ _ y.1; scratch = not_true _ x.1 }
+    record { inner = not-true _ y.0; samples = leb-true _ _ y.1; scratch = not-true _ x.1 }
 
 pub few : (R C m : ℕ) (p : Cells Bool) → is_some (flat_fault R C m) ≡ false → count_cells R C p ≤ 4096 * 4096
 few R C m p h = let s = sound R C m h in omega (arith, count_cells_at_most R C p, mul-le-mul s.tall s.wide)

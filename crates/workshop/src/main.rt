@@ -25,7 +25,7 @@ fn script_of(rt: &HostRuntime) -> anyhow::Result<Script> {
         Ok(script) => Ok(script),
         Err(Trouble::Wrong(Wrong { line, mistake })) => {
             let words = mistake.words();
-            Err(anyhow!(format!(rt.alloc(), "line {line}: {words}")?))
+            Err(anyhow!(format!(in rt.alloc(); "line {line}: {words}")?))
         }
         Err(Trouble::Memory) => Err(anyhow!("there is not enough memory")),
     }
@@ -77,7 +77,7 @@ fn perform(rt: &HostRuntime, script: &mut Script) -> anyhow::Result<Performance>
             let name = name_of(path)?;
             let bytes = match read_plate(rt, name) {
                 Ok(bytes) => bytes,
-                Err(error) => return Err(anyhow!(format!(heap, "{name}: {error}")?)),
+                Err(error) => return Err(anyhow!(format!(in heap; "{name}: {error}")?)),
             };
             let opened = perform_file(heap, *number, *kernel, bytes, turns, endings)?;
             Ok(opened)
@@ -91,7 +91,7 @@ fn save(rt: &HostRuntime, endings: &[Ending], bytes: &[u8]) -> anyhow::Result<()
         if let Ending::Save { path } = ending {
             let name = name_of(path)?;
             if let Err(error) = write_plate(rt, name, bytes) {
-                return Err(anyhow!(format!(rt.alloc(), "{name}: {error}")?));
+                return Err(anyhow!(format!(in rt.alloc(); "{name}: {error}")?));
             }
         }
     }

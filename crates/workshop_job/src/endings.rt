@@ -26,7 +26,7 @@ fn sheet_lines<S: Store, K: Kernel>(
     issue: u16,
     room: usize,
 ) -> Result<Vec<u8>, AllocError>
-    ensures are_the_sheet_or_its_fault { IfOk result (λ v. v.items ≡ sheet_lines (K.Kernel.code plate.now.kernel) (seen S.Plane S.Store K.Kernel plate.now) issue room) }
+    ensures are_the_sheet_or_its_fault { IfOk result (λ v. v.items ≡ sheet_lines (K.Kernel.code plate.now.kernel) (seen S.Plane S.Store.own K.Kernel plate.now) issue room) }
 {
     let mut lines = vec![in heap; 0u8; sheet_room(room)]?;
     match plate.sheet(issue, &mut lines) {
@@ -43,7 +43,7 @@ fn ending_lines<S: Store, K: Kernel>(
     plate: &Plate<S, K>,
     ending: &Ending,
 ) -> Result<Vec<u8>, AllocError>
-    ensures are_those_of_a_sheet { IfOk result (λ v. v.items ≡ ending_lines (K.Kernel.code plate.now.kernel) (seen S.Plane S.Store K.Kernel plate.now) ending.now) }
+    ensures are_those_of_a_sheet { IfOk result (λ v. v.items ≡ ending_lines (K.Kernel.code plate.now.kernel) (seen S.Plane S.Store.own K.Kernel plate.now) ending.now) }
 {
     match ending {
         Ending::Sheet { issue, room } => sheet_lines(heap, plate, *issue, *room),
@@ -57,7 +57,7 @@ pub(crate) fn endings_lines<S: Store, K: Kernel>(
     plate: &Plate<S, K>,
     endings: &[Ending],
 ) -> Result<Vec<u8>, AllocError>
-    ensures are_those_of_the_sheets { IfOk result (λ v. v.items ≡ endings_lines (K.Kernel.code plate.now.kernel) (seen S.Plane S.Store K.Kernel plate.now) endings.now) }
+    ensures are_those_of_the_sheets { IfOk result (λ v. v.items ≡ endings_lines (K.Kernel.code plate.now.kernel) (seen S.Plane S.Store.own K.Kernel plate.now) endings.now) }
 {
     let mut lines = Vec::new(heap);
     for ending in endings {

@@ -22,7 +22,7 @@ pub fn perform<S: Store + Drop, K: Kernel + Drop>(
     turns: &mut [Turn],
     endings: &[Ending],
 ) -> Result<(Vec<u8>, S), AllocError>
-    ensures after_every_call_nothing_differs { IfOk result (λ x. Performed (just_made S.Plane S.Store K.Kernel number store kernel) (K.Kernel.code kernel) turns.old turns.new endings.now (S.Plane.picture x.1) (S.Store.bits x.1) x.0.items) }
+    ensures after_every_call_nothing_differs { IfOk result (λ x. Performed (just_made S.Plane S.Store.own K.Kernel number store kernel) (K.Kernel.code kernel) turns.old turns.new endings.now (S.Plane.picture x.1) (S.Store.bits x.1) x.0.items) }
 {
     let plate = run(number, store, kernel, turns);
     let mut text = answer_lines(heap, turns)?.into_bytes();

@@ -8,4 +8,4 @@ invariant-loop-number g l =
     (g.S.Plane.picture l.store ≡ worked (cell_undo (g.K.Kernel.amounts l.kernel) l.initial.number l.number) p)
     × (g.S.Store.bits l.store ≡ with_bits (rounds_put p.height p.width l.number l.initial.number) (g.S.Store.bits l.initial.store))
     × g.S.Store.frame false l.initial.store l.store
-    × (min l.number_start l.initial.number ≤ l.number)
+    × (min l.number-start l.initial.number ≤ l.number)

@@ -51,14 +51,14 @@ returns-in-Settle g c =
     let n = c.in-Settle.number in
     let i = c.in-Settle.serial in
     let xs = c.deref-in-Settle.ensures.value in
-    let ys = c.deref-mut.ensures.value in
+    let ys = c.deref_mut.ensures.value in
     let l = c.given-lease.result in
-    let at : (P : plain.Call → Type 0) → P (plain.settling l.plate l.serial (plain.samples_of c.deref-in-Settle.result.now) (length c.deref-mut.result.now)) → P (plain.settling n i (plain.samples_of (vec_items c.in-Settle.samples)) (length (vec_items c.in-Settle.scratch)))
-    = λ P h. settling_of n i P c.deref-in-Settle.result.now (vec_items c.in-Settle.samples) c.deref-mut.result.now (vec_items c.in-Settle.scratch) xs ys
-    (rename_lease (λ a b. P (plain.settling a b (plain.samples_of c.deref-in-Settle.result.now) (length c.deref-mut.result.now))) l.plate n l.serial i
+    let at : (P : plain.Call → Type 0) → P (plain.settling l.plate l.serial (plain.samples_of c.deref-in-Settle.result.now) (length c.deref_mut.result.now)) → P (plain.settling n i (plain.samples_of (vec_items c.in-Settle.samples)) (length (vec_items c.in-Settle.scratch)))
+    = λ P h. settling_of n i P c.deref-in-Settle.result.now (vec_items c.in-Settle.samples) c.deref_mut.result.now (vec_items c.in-Settle.scratch) xs ys
+    (rename_lease (λ a b. P (plain.settling a b (plain.samples_of c.deref-in-Settle.result.now) (length c.deref_mut.result.now))) l.plate n l.serial i
     c.given-lease.ensures.has_the_plates_number c.given-lease.ensures.has_the_serial h) in
     let used = with_items c.in-Settle.scratch c.settle.new.scratch in
-    let long : length c.settle.new.scratch ≡ c.in-Settle.scratch.len = c.settle.auto.scratch ∙ c.deref-mut.ensures.len in
+    let long : length c.settle.new.scratch ≡ c.in-Settle.scratch.len = c.settle.auto.scratch ∙ c.deref_mut.ensures.len in
     let filled : vec_items used ≡ c.settle.new.scratch = with_items_is c.in-Settle.scratch c.settle.new.scratch long in
     record {
       does_the_call =
@@ -75,14 +75,14 @@ returns-in-Preview g c =
     let v = seen g.S.Plane g.S.Store g.K.Kernel c.args.plate.now in
     let card = c.in-Preview.card in
     let a = lattice_rectangle c.in-Preview.first c.in-Preview.height c.in-Preview.width in
-    let xs = c.deref-mut-in-Preview.ensures.value in
-    let ys = c.deref-mut-in-Preview-2.ensures.value in
-    let at : (P : plain.Call → Type 0) → P (plain.previewing card a (length c.deref-mut-in-Preview.result.now) (length c.deref-mut-in-Preview-2.result.now)) → P (plain.previewing card a (length (vec_items c.in-Preview.scratch)) (length (vec_items c.in-Preview.output)))
-    = λ P. previewing_of card a P c.deref-mut-in-Preview.result.now (vec_items c.in-Preview.scratch) c.deref-mut-in-Preview-2.result.now (vec_items c.in-Preview.output) xs ys in
+    let xs = c.deref_mut-in-Preview.ensures.value in
+    let ys = c.deref_mut-in-Preview-2.ensures.value in
+    let at : (P : plain.Call → Type 0) → P (plain.previewing card a (length c.deref_mut-in-Preview.result.now) (length c.deref_mut-in-Preview-2.result.now)) → P (plain.previewing card a (length (vec_items c.in-Preview.scratch)) (length (vec_items c.in-Preview.output)))
+    = λ P. previewing_of card a P c.deref_mut-in-Preview.result.now (vec_items c.in-Preview.scratch) c.deref_mut-in-Preview-2.result.now (vec_items c.in-Preview.output) xs ys in
     let used = with_items c.in-Preview.scratch c.preview.new.scratch in
     let drawn = with_items c.in-Preview.output c.preview.new.output in
-    let used_is : vec_items used ≡ c.preview.new.scratch = with_items_is c.in-Preview.scratch c.preview.new.scratch (c.preview.auto.scratch ∙ c.deref-mut-in-Preview.ensures.len) in
-    let drawn_is : vec_items drawn ≡ c.preview.new.output = with_items_is c.in-Preview.output c.preview.new.output (c.preview.auto.output ∙ c.deref-mut-in-Preview-2.ensures.len) in
+    let used_is : vec_items used ≡ c.preview.new.scratch = with_items_is c.in-Preview.scratch c.preview.new.scratch (c.preview.auto.scratch ∙ c.deref_mut-in-Preview.ensures.len) in
+    let drawn_is : vec_items drawn ≡ c.preview.new.output = with_items_is c.in-Preview.output c.preview.new.output (c.preview.auto.output ∙ c.deref_mut-in-Preview-2.ensures.len) in
     record {
       does_the_call =
           stepped _ (Preview card c.in-Preview.first c.in-Preview.height c.in-Preview.width c.in-Preview.scratch c.in-Preview.output) _ _ (answered (λ _. plain.done) c.preview.result) _ _ c.in-Preview.is c.done_or_declined-in-Preview.ensures.means_the_same

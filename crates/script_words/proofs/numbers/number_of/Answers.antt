@@ -9,7 +9,7 @@ loop-b-init c = (number_start c.args.word.now c.if-is_empty.ensures, omega arith
 pub returns-in_err-n : goal.returns-in_err-n
 returns-in_err-n c =
     let told = c.in_err-n.ensures.is_ten_times_as_much_and_the_digit in
-    record { is_the_number_if_it_is_one = c.from-residual.ensures ∙ sym (number_stops c.loop-b.n c.loop-b.b-index c.args.word.now c.loop-b-test.true told) ∙ c.loop-b.invariant.0 }
+    record { is_the_number_if_it_is_one = c.from_residual.ensures ∙ sym (number_stops c.loop-b.n c.loop-b.b-index c.args.word.now c.loop-b-test.true told) ∙ c.loop-b.invariant.0 }
 
 pub loop-b-preserved : goal.loop-b-preserved
 loop-b-preserved c =

@@ -6,11 +6,11 @@ use Rattle.sheet_job.proofs.report.write_picture.Goals as goal
 
 pub returns-in_err-picture : goal.returns-in_err-picture
 returns-in_err-picture c =
-    let p = err_from_is_err_and c.from-residual.result c.from-residual.ensures.1 in
+    let p = err_from_is_err_and c.from_residual.result c.from_residual.ensures.1 in
     record {
       writes_the_sheet_or_tells_readings_fault = fault_told c.args.bytes.now c.front.result.now c.args.out.now c.front.ensures.is_the_front c.read_pgm.new.samples
-          _ c.from-residual.result c.in_err-picture.ensures.reads_the_picture_or_declines_by_the_table (p.1 ∙ ap Err p.2);
-      is_no_longer_than_the_longest = IfOk-from_err c.from-residual.result _ c.from-residual.ensures.0;
+          _ c.from_residual.result c.in_err-picture.ensures.reads_the_picture_or_declines_by_the_table (p.1 ∙ ap Err p.2);
+      is_no_longer_than_the_longest = IfOk-from_err c.from_residual.result _ c.from_residual.ensures.0;
     }
 
 pub lay_and_write-requires : goal.lay_and_write-requires

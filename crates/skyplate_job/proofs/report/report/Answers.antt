@@ -18,12 +18,12 @@ made_more : {X Y : Type 0} (r : Result X Y) (P Q : X → Type 0) → ((x : X) �
 made_more (Ok x) P Q f p = f x p
 made_more (Err y) P Q f p = tt
 
-pub returns-in_ok-to_string : goal.returns-in_ok-to_string
-returns-in_ok-to_string c = record {
+pub returns-in_ok-to_string-in-Ok : goal.returns-in_ok-to_string-in-Ok
+returns-in_ok-to_string-in-Ok c = record {
   is_the_faults_line_or_the_pictures =
       pictured c.args.bytes.now c.front.result.now c.in-Ok.picture c.read_pgm.new.samples (vec_items c.into_bytes.result) c.front.ensures.is_the_front
       c.in-Ok.ensures.reads_the_picture_or_declines_by_the_table
-      (ap vec_items c.into_bytes.ensures.value ∙ c.in_ok-to_string.ensures.ok
+      (ap vec_items c.into_bytes.ensures.value ∙ c.in_ok-to_string-in-Ok.ensures.ok
       ∙ ap summary_line (c.new-summary.ensures.has_the_smallest_and_the_largest_sample ∙ ap (summary_of c.in-Ok.picture) c.raster.ensures.is_the_raster));
 }
 
@@ -33,5 +33,5 @@ returns-in-Err c = record {
       made_more c.to_vec.result _ (λ text. Reports c.args.bytes.now (vec_items text))
       (λ text q. faulty c.args.bytes.now c.front.result.now c.in-Err.fault c.read_pgm.new.samples (vec_items text) c.front.ensures.is_the_front
       c.in-Err.ensures.reads_the_picture_or_declines_by_the_table (q (λ x y e. e) ∙ c.fault_line.ensures.is_the_line_of_the_fault))
-      c.to_vec.ensures.items-if-clones-equal;
+      c.to_vec.ensures.items_if_clones_equal;
 }

@@ -17,10 +17,10 @@ returns-in-Some c =
 pub returns : goal.returns
 returns c =
     let n = records c.args.rows c.args.columns in
-    let items = c.deref-mut.ensures.value ∙ c.in_ok-cells.ensures.are_blank in
+    let items = c.deref_mut.ensures.value ∙ c.in_ok-cells.ensures.are_blank in
     record {
-      after_every_call_nothing_differs = performed c.args.number c.args.kernel c.args.rows c.args.columns (length c.deref-mut.result.now) c.new-store.result.rows c.new-store.result.columns
+      after_every_call_nothing_differs = performed c.args.number c.args.kernel c.args.rows c.args.columns (length c.deref_mut.result.now) c.new-store.result.rows c.new-store.result.columns
           c.new-store.result.cells.now c.args.turns.now c.perform.new.turns c.args.endings.now _ _ (vec_items c.in_ok-text.text)
-          (ap length items ∙ length-replicate n blank) (c.in-None.ensures.is_the_first_that_holds ∙ ap (λ q. flat_fault c.args.rows c.args.columns (length q)) (c.deref.ensures.value ∙ sym c.deref-mut.ensures.value)) (c.new-store.ensures.keeps_every_record ∙ items) c.new-store.ensures.has_the_rows_or_none c.new-store.ensures.has_the_columns_or_none
+          (ap length items ∙ length-replicate n blank) (c.in-None.ensures.is_the_first_that_holds ∙ ap (λ q. flat_fault c.args.rows c.args.columns (length q)) (c.deref.ensures.value ∙ sym c.deref_mut.ensures.value)) (c.new-store.ensures.keeps_every_record ∙ items) c.new-store.ensures.has_the_rows_or_none c.new-store.ensures.has_the_columns_or_none
           c.in_ok-text.ensures.after_every_call_nothing_differs;
     }

@@ -10,13 +10,13 @@ done : (c : After-clear_bits) → StoreCleared c.args.self.now.bytes.items (with
 done c =
     let s = c.args.self.now in
     let l : length c.clear_bits.new.bytes ≡ s.bytes.len = omega arith in
-    cleared_through s.bytes.items c.deref-mut.result.now s.sides.rows s.sides.columns c.clear_bits.new.bytes _
-    s.has_the_rows s.has_the_columns c.deref-mut.ensures.value (with_items_is s.bytes c.clear_bits.new.bytes l) c.clear_bits.ensures.zeroes_the_bits_of_every_slot
+    cleared_through s.bytes.items c.deref_mut.result.now s.sides.rows s.sides.columns c.clear_bits.new.bytes _
+    s.has_the_rows s.has_the_columns c.deref_mut.ensures.value (with_items_is s.bytes c.clear_bits.new.bytes l) c.clear_bits.ensures.zeroes_the_bits_of_every_slot
 
 pub invariant_of-self : goal.invariant_of-self
 invariant_of-self c =
     let s = c.args.self.now in let p = done (goal.at.invariant_of-self c).After-clear_bits in
-    (s.has_the_rows ∙ sym p.rows, (s.has_the_columns ∙ sym p.columns, tt))
+    record { has_the_rows = s.has_the_rows ∙ sym p.rows; has_the_columns = s.has_the_columns ∙ sym p.columns }
 
 pub returns : goal.returns
 returns c =

@@ -11,13 +11,13 @@ done : (c : After-put_place)
 done c =
     let s = c.args.self.now in
     let l : length c.put_place.new.bytes ≡ s.bytes.len = omega arith in
-    put_through s.bytes.items c.deref-mut.result.now s.sides.rows s.sides.columns c.args.row c.args.column c.args.number _ c.put_place.new.bytes _ c.put_place.result
-    s.has_the_rows s.has_the_columns c.deref-mut.ensures.value (to_z-of_z c.ranges.number) (with_items_is s.bytes c.put_place.new.bytes l) c.ranges.number c.put_place.ensures.writes_the_cell
+    put_through s.bytes.items c.deref_mut.result.now s.sides.rows s.sides.columns c.args.row c.args.column c.args.number _ c.put_place.new.bytes _ c.put_place.result
+    s.has_the_rows s.has_the_columns c.deref_mut.ensures.value (to_z-of_z c.ranges.number) (with_items_is s.bytes c.put_place.new.bytes l) c.ranges.number c.put_place.ensures.writes_the_cell
 
 pub invariant_of-self : goal.invariant_of-self
 invariant_of-self c =
     let s = c.args.self.now in let p = done (goal.at.invariant_of-self c).After-put_place in
-    (s.has_the_rows ∙ sym p.rows, (s.has_the_columns ∙ sym p.columns, tt))
+    record { has_the_rows = s.has_the_rows ∙ sym p.rows; has_the_columns = s.has_the_columns ∙ sym p.columns }
 
 pub returns : goal.returns
 returns c =
