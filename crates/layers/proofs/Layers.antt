@@ -5,7 +5,7 @@ use native.Mathlib.Nat.{eq_of_mul-eq-mul_right}
 use Rattle.std.proofs.lemmas.Bool.{cases_eq, eq-eqb, ne_eqb, cond_both, eqb-true, and_parts}
 use Rattle.std.proofs.lemmas.Nat.{pow_pos}
 use Rattle.faults.specs.declared.fault.Fault.{Fault}
-use Rattle.planes.specs.Planes.{Cells, with_at, Picture, written, marked, Within, PutsNumber, PutsBit}
+use Rattle.planes.specs.Planes.{Cells, with_at, Picture, Within, PutsNumber, PutsBit}
 use Rattle.planes.proofs.Pictures.{same_picture}
 use Rattle.layers.specs.Layers.{sampled, lattice, LayerFrame, Off}
 

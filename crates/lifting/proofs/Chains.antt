@@ -1,5 +1,5 @@
 -- One pass after another.
-use Rattle.std.proofs.Common.{◌≡◌, ℕ, Bool, true, false, ◌||◌, sym, refl, ap, ◌∙◌}
+use Rattle.std.proofs.Common.{◌≡◌, ℕ, Bool, true, false, ◌||◌, refl, ap, ◌∙◌}
 use mathlib.Core.Path.{fun_ext}
 use Rattle.planes.specs.Planes.{Cells, Picture}
 use Rattle.wavelets.specs.Lifting.{PlaneWork}

@@ -1,10 +1,10 @@
 -- Where all results fit, nothing is clamped.
-use Rattle.std.proofs.Common.{◌≡◌, ℕ, ◌+◌, ◌<◌, ◌≤◌, min, Bool, true, false, ltb, ◌⊎◌, ℤ, pos, negsuc, nat_abs, sym, refl, ap, ◌∙◌, inl, inr, ⊎_elim, arith}
+use Rattle.std.proofs.Common.{◌≡◌, ℕ, ◌<◌, ◌≤◌, min, Bool, true, false, ◌⊎◌, ℤ, pos, negsuc, nat_abs, sym, refl, ap, ◌∙◌, inl, inr, arith}
 use mathlib.Core.Path.{fun_ext}
-use Rattle.std.proofs.lemmas.Bool.{and_parts, ltb-true, cases_lt}
+use Rattle.std.proofs.lemmas.Bool.{cases_lt}
 use Rattle.std.proofs.lemmas.Bool.Decides.{nat_tests}
 use Rattle.planes.specs.Planes.{Picture}
-use Rattle.wavelets.specs.Lifting.{Amounts, Lawful, Plane, PlaneWork, is_changed, step, predicted, lift, unupdated, unlift, rows, columns, level, unlevel, size, lattice, climb, descend, forward, Agree, Bounded}
+use Rattle.wavelets.specs.Lifting.{Amounts, Lawful, Plane, PlaneWork, step, predicted, lift, unupdated, unlift, rows, columns, level, size, forward, Agree, Bounded}
 use Rattle.wavelets.specs.Theorems.{LiftingWithin, ReadsNothingOutside}
 use Rattle.wavelets.proofs.Steps.{step_reads}
 use Rattle.wavelets.proofs.Planes.{rows_after, columns_after, columns_undone, rows_read, columns_read}

@@ -1,5 +1,5 @@
 -- A pass over the lattice of a level, and the rounds of all levels.
-use Rattle.std.proofs.Common.{◌≡◌, ℕ, zero, suc, ◌+◌, ◌*◌, ◌/◌, ◌%◌, ◌^◌, ◌<◌, ◌≤◌, min, Bool, true, false, cond, ◌&&◌, ◌||◌, eqb, ltb, leb, ◌⊎◌, ℤ, sym, refl, ap, ◌∙◌, subst, inl, inr, ⊎_elim, pow-suc, add-one, arith}
+use Rattle.std.proofs.Common.{◌≡◌, ℕ, zero, suc, ◌+◌, ◌*◌, ◌/◌, ◌%◌, ◌^◌, ◌<◌, ◌≤◌, min, Bool, true, false, ◌&&◌, ◌||◌, ltb, ◌⊎◌, sym, refl, ap, ◌∙◌, subst, inl, inr, ⊎_elim, pow-suc, add-one, arith}
 use mathlib.Core.Path.{fun_ext}
 use native.Mathlib.Nat.{mul-mod_left, div_self}
 use Rattle.std.proofs.lemmas.Bool.Decides.{nat_tests}
@@ -8,11 +8,11 @@ use Rattle.std.proofs.lemmas.Nat.{pow_pos}
 use Rattle.planes.specs.Planes.{Cells, Picture}
 use Rattle.planes.proofs.Pictures.{same_picture}
 use Rattle.layers.specs.Layers.{sampled, LayerFrame, Off, lattice as lattice_picture}
-use Rattle.wavelets.specs.Lifting.{Plane, PlaneWork, size, on, lattice, on_lattice, round, climb, descend}
+use Rattle.wavelets.specs.Lifting.{Plane, PlaneWork, size, on, lattice, round, climb, descend}
 use Rattle.wavelets.proofs.Lattices.{cell_of_place, on_lattice_on, on_lattice_off, place_inside, cell_inside, on_below}
 use Rattle.wavelets.proofs.Rounds.{climb_none, climb_more, descend_more}
-use Rattle.lifting.specs.Passes.{worked, with_bits, round_puts, rounds_put, cell_forward, cell_undo, cell_level, cell_unlevel}
-use Rattle.lifting.specs.Walks.{changes, lift_puts, undo_puts, lattice_puts}
+use Rattle.lifting.specs.Passes.{worked, with_bits, round_puts, rounds_put}
+use Rattle.lifting.specs.Walks.{lift_puts, undo_puts, lattice_puts}
 
 -- Through the layer -------------------------------------------------------------------------------------------------------------
 

@@ -1,9 +1,9 @@
 -- A sweep, place by place.
-use Rattle.std.proofs.Common.{◌≡◌, ℕ, ◌+◌, ◌<◌, ◌≤◌, Bool, true, false, cond, ◌&&◌, ◌||◌, eqb, ltb, ℤ, sym, refl, ap, ◌∙◌, arith}
+use Rattle.std.proofs.Common.{◌≡◌, ℕ, ◌+◌, ◌<◌, ◌≤◌, Bool, true, false, ltb, ℤ, sym, refl, ap, ◌∙◌, arith}
 use Rattle.std.proofs.lemmas.Bool.Decides.{nat_tests}
 use Rattle.std.proofs.lemmas.Bool.{and_parts, and_from, both_ways}
-use Rattle.planes.specs.Planes.{Cells, Picture, with_at, written, marked}
-use Rattle.wavelets.specs.Lifting.{Amounts, Line, Plane, left, right, is_changed, step, rows, columns}
+use Rattle.planes.specs.Planes.{Cells, Picture, written, marked}
+use Rattle.wavelets.specs.Lifting.{Amounts, Plane, left, right, is_changed, step, rows, columns}
 use Rattle.wavelets.proofs.Steps.{step_changed, step_unchanged, left_unchanged, right_unchanged}
 use Rattle.wavelets.proofs.Planes.{rows_in, rows_out, columns_in, columns_out}
 use Rattle.lifting.specs.Passes.{to_cell, StepRule, Direction, horizontal, vertical, lines, swept, worked, with_bits}

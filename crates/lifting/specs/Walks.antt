@@ -1,6 +1,6 @@
 -- The way of a sweep through a plane: row by row in either direction, over the places that its step changes.
-use Rattle.std.specs.Prelude.{◌≡◌, ℕ, ◌+◌, ◌-◌, ◌*◌, ◌/◌, ◌^◌, ◌<◌, Bool, true, cond, ◌&&◌, ◌||◌, ℤ, nat_lt}
-use Rattle.planes.specs.Planes.{Cells, Picture}
+use Rattle.std.specs.Prelude.{ℕ, ◌+◌, ◌-◌, ◌*◌, ◌/◌, ◌^◌, ◌<◌, Bool, cond, ◌&&◌, ◌||◌, ℤ, nat_lt}
+use Rattle.planes.specs.Planes.{Cells}
 use Rattle.wavelets.specs.Lifting.{Amounts, Plane, left, right, is_changed, size, on}
 use Rattle.lifting.specs.Passes.{to_cell, StepRule, Direction, horizontal, vertical}
 

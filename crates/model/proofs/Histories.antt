@@ -1,13 +1,10 @@
 -- The plain plate after a history, call by call.
-use Rattle.std.proofs.Common.{◌≡◌, ℕ, Bool, true, false, cond, not, ◌&&◌, ◌||◌, List, [], ◌∷◌, is_some, Some, None, Option, sym, refl, ap, ◌∙◌, subst, arith}
-use Rattle.std.proofs.lemmas.Bool.Decides.{nat_tests}
+use Rattle.std.proofs.Common.{◌≡◌, ℕ, Bool, true, false, cond, not, ◌&&◌, ◌||◌, List, [], ◌∷◌, is_some, Some, None, Option, refl, ap, ◌∙◌, arith}
 use Rattle.faults.specs.declared.fault.Fault.{Fault}
 use Rattle.planes.specs.declared.rectangle.Rectangle.{Rectangle}
-use Rattle.wavelets.specs.Lifting.{Cells, Plane}
-use Rattle.model.specs.declared.plan.Plan.{Plan}
-use Rattle.model.specs.Calls.{Numbers, Call, laying, leasing, settling, surrendering, recalling, previewing, reading, clearing}
-use Rattle.model.specs.Plain.{Setting, Plain, fresh, why, after_by, after, replaced, cone, plan_or_none, rectangle_or_none, is_out, ends_the_lease}
-use Rattle.model.specs.Laws.{after_history, verdicts, last_leased, leased_by, Deed, laid, edited, cleared, nothing, deed, deeds, is_laying, is_clearing, since, some, last_plan, edited_picture, in_its_cone, marked_cells, IsWhatTheHistorySays, ThePlainPlateIsWhatItsHistorySays}
+use Rattle.model.specs.Calls.{Call, laying, leasing, settling, surrendering, recalling, previewing, reading, clearing}
+use Rattle.model.specs.Plain.{Setting, Plain, why, after_by, replaced, cone, plan_or_none, rectangle_or_none, is_out, ends_the_lease}
+use Rattle.model.specs.Laws.{after_history, verdicts, last_leased, leased_by, Deed, nothing, deed, deeds, is_laying, is_clearing, since, some, last_plan, edited_picture, in_its_cone, marked_cells, ThePlainPlateIsWhatItsHistorySays}
 
 -- What is kept of a plain plate p, by the rectangle that was last leased and the deeds so far.
 record Kept (s : Setting) (p : Plain) (a : Rectangle) (ds : List Deed) : Type 0 where

@@ -1,5 +1,5 @@
 -- The plain plate above its steps: what its picture and its bits are, by a whole list of calls and their verdicts.
-use Rattle.std.specs.Prelude.{◌≡◌, ℕ, Bool, true, false, cond, not, ◌||◌, List, [], ◌∷◌, reverse, ℤ, pos, is_some, Some, None, Option}
+use Rattle.std.specs.Prelude.{◌≡◌, ℕ, Bool, true, false, cond, not, ◌||◌, List, [], ◌∷◌, pos, is_some, Some, None, Option}
 use Rattle.planes.specs.declared.rectangle.Rectangle.{Rectangle}
 use Rattle.wavelets.specs.Lifting.{Amounts, Cells, Plane}
 use Rattle.model.specs.declared.plan.Plan.{Plan}

@@ -1,13 +1,12 @@
 -- The reader's three numbers, and the header's grammar.
-use Rattle.std.proofs.Common.{◌≡◌, ℕ, zero, suc, ◌+◌, ◌-◌, ◌*◌, ◌<◌, ◌≤◌, ◌⊎◌, ◌↔◌, List, [], ◌∷◌, ◌++◌, length, take, drop, sym, refl, ap, ◌∙◌, subst, inl, inr, ⊎_elim, append_assoc, append-nil, arith}
-use Rattle.std.proofs.lemmas.List.{take_at, drop_at, length-append, take-append-drop, take-append-le, take_all, append_cancel_left}
+use Rattle.std.proofs.Common.{◌≡◌, ℕ, zero, suc, ◌+◌, ◌-◌, ◌<◌, ◌≤◌, ◌⊎◌, List, [], ◌∷◌, ◌++◌, length, take, drop, sym, refl, ap, ◌∙◌, subst, inl, inr, ⊎_elim, append_assoc, append-nil, arith}
+use Rattle.std.proofs.lemmas.List.{take_at, length-append, take-append-drop, take-append-le}
 use Rattle.std.proofs.lemmas.Bool.{cases_lt}
 use Rattle.pgm.specs.Grammar.{IsBlank, IsDigit, Numeral, Numbers, HeaderText, Whole, Unfitting}
 use Rattle.pgm.specs.declared.header.State.{State}
-use Rattle.pgm.specs.declared.header.State.TheVariants.{Magic, Gap}
-use Rattle.pgm.proofs.Rests.{Rest, GapL, MagicL, VersionL, Parts}
+use Rattle.pgm.proofs.Rests.{Rest, GapL, MagicL, Parts}
 use Rattle.pgm.proofs.Outcomes.{Passed, Stuck, Ends}
-use Rattle.pgm.proofs.Splits.{Item, gap_item, item_gap}
+use Rattle.pgm.proofs.Splits.{gap_item, item_gap}
 
 abbrev pub Blank1 : List ℕ → Type 0
 Blank1 ys = (b : ℕ) × IsBlank b × (ys ≡ b ∷ [])

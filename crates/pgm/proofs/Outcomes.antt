@@ -1,5 +1,5 @@
 -- What the reader's answer says of its text.
-use Rattle.std.proofs.Common.{◌≡◌, ℕ, zero, suc, ◌+◌, ◌-◌, ◌*◌, ◌<◌, ◌≤◌, ◌⊎◌, ◌↔◌, List, [], ◌∷◌, ◌++◌, length, Some, None, Option, sym, refl, ap, ◌∙◌, subst, inl, inr, ⊎_elim, arith}
+use Rattle.std.proofs.Common.{◌≡◌, ℕ, ◌+◌, ◌↔◌, List, [], ◌∷◌, ◌++◌, length, Some, None, Option, refl, ap, subst, arith}
 use Rattle.pgm.specs.Machine.{next, class, scan, after}
 use Rattle.pgm.specs.declared.header.State.{State}
 use Rattle.pgm.specs.declared.header.State.TheVariants.{Magic, Version, Gap, Spaced, Comment, Number, Past, Unfit}

@@ -1,9 +1,9 @@
 -- What may come at a state, as blanks, a numeral and the rest.
-use Rattle.std.proofs.Common.{◌≡◌, ℕ, zero, suc, ◌+◌, ◌-◌, ◌*◌, ◌<◌, ◌≤◌, true, false, ◌⊎◌, ◌↔◌, List, [], ◌∷◌, ◌++◌, map, length, sym, refl, ap, ◌∙◌, subst, inl, inr, ⊎_elim, append_assoc, arith}
+use Rattle.std.proofs.Common.{◌≡◌, ℕ, ◌+◌, ◌-◌, ◌*◌, ◌≤◌, true, false, List, [], ◌∷◌, ◌++◌, map, length, sym, refl, ap, ◌∙◌, subst, inl, inr, ⊎_elim, append_assoc, arith}
 use Rattle.std.specs.List.{flat_map, AllByRecursion as All}
-use Rattle.std.specs.Int.Digits.{number_from_digits, number_from_digits_after}
-use Rattle.pgm.specs.Grammar.{IsBlank, IsDigit, Filler, Blanks, Numeral, Numbers, HeaderText, Whole}
-use Rattle.pgm.proofs.Rests.{Skip, Dig, GapL, MagicL, VersionL, Parts}
+use Rattle.std.specs.Int.Digits.{number_from_digits_after}
+use Rattle.pgm.specs.Grammar.{IsBlank, IsDigit, Filler, Blanks, Numeral}
+use Rattle.pgm.proofs.Rests.{Skip, Dig, GapL}
 
 abbrev SomeFillers : List ℕ → Type 0
 SomeFillers g = (fs : List (List ℕ)) × All Filler fs × (g ≡ flat_map (λ f. f) fs)

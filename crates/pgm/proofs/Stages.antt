@@ -1,11 +1,11 @@
 -- The header's reader, number by number.
-use Rattle.std.proofs.Common.{◌≡◌, ℕ, zero, suc, ◌+◌, ◌-◌, ◌*◌, ◌<◌, ◌≤◌, ◌⊎◌, List, [], ◌∷◌, ◌++◌, length, get_or, take, drop, Some, None, Option, sym, refl, ap, ◌∙◌, subst, inl, inr, ⊎_elim, append_assoc, arith}
+use Rattle.std.proofs.Common.{◌≡◌, ℕ, suc, ◌+◌, ◌<◌, ◌≤◌, List, [], ◌∷◌, ◌++◌, length, get_or, take, drop, Some, None, Option, sym, refl, ap, ◌∙◌, subst, append_assoc, arith}
 use Rattle.std.proofs.lemmas.List.{take_at, drop_at, length-append, take-append-drop, length-drop, drop_more, drop-drop, take_more, length-take-le}
 use Rattle.pgm.specs.Grammar.{IsBlank, HeaderText, Unfitting}
 use Rattle.pgm.specs.Machine.{scan}
 use Rattle.pgm.specs.declared.header.State.{State}
 use Rattle.pgm.specs.declared.header.State.TheVariants.{Magic, Gap}
-use Rattle.pgm.proofs.Rests.{Rest, Live, Parts}
+use Rattle.pgm.proofs.Rests.{Live, Parts}
 use Rattle.pgm.proofs.Outcomes.{Passed, Stuck, Out, outcome}
 use Rattle.pgm.proofs.Headers.{Blank1, Follow, Any, any_parts, follow_parts, any_text, magic_header, passed_stuck, blank_stuck, unfitting}
 

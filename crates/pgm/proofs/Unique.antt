@@ -1,11 +1,11 @@
 -- A file begins with at most one header: two texts of the grammar in front of one list pass the reader alike.
-use Rattle.std.proofs.Common.{◌≡◌, ℕ, zero, suc, ◌+◌, ◌≤◌, ◌⊎◌, List, [], ◌∷◌, ◌++◌, length, take, drop, Some, None, Option, sym, refl, ap, ◌∙◌, subst, inl, inr, ⊎_elim, arith}
+use Rattle.std.proofs.Common.{◌≡◌, ℕ, List, [], ◌∷◌, ◌++◌, length, drop, Some, None, Option, sym, refl, ap, ◌∙◌, subst, ⊎_elim, arith}
 use Rattle.std.proofs.lemmas.List.{take-append-drop, length-take-le}
-use Rattle.pgm.specs.Grammar.{Numbers, HeaderText, AtMostOneHeader}
+use Rattle.pgm.specs.Grammar.{Numbers, AtMostOneHeader}
 use Rattle.pgm.specs.Machine.{scan}
 use Rattle.pgm.specs.declared.header.State.{State}
-use Rattle.pgm.specs.declared.header.State.TheVariants.{Magic, Gap}
-use Rattle.pgm.proofs.Rests.{Rest, Live, Parts}
+use Rattle.pgm.specs.declared.header.State.TheVariants.{Gap}
+use Rattle.pgm.proofs.Rests.{Rest}
 use Rattle.pgm.proofs.Outcomes.{Passed, Stuck, Ends, Out, outcome}
 use Rattle.pgm.proofs.Headers.{Follow, Any, any_parts, follow_parts, any_text, fronts, numbers_follow, numbers_any, follow_numbers}
 

@@ -1,5 +1,5 @@
 -- The steps of the header's reader, for its private functions; what a header is, Grammar.antt says.
-use Rattle.std.specs.Prelude.{◌≡◌, ℕ, suc, ◌+◌, ◌-◌, ◌*◌, ◌^◌, ◌<◌, ◌≤◌, Bool, true, false, cond, ◌&&◌, List, [], ◌∷◌, Some, None, Option, ◌==◌, nat_le, nat_lt}
+use Rattle.std.specs.Prelude.{ℕ, ◌+◌, ◌-◌, ◌*◌, ◌^◌, ◌<◌, ◌≤◌, cond, ◌&&◌, List, [], ◌∷◌, Some, None, Option, ◌==◌, nat_le, nat_lt}
 use Rattle.pgm.specs.declared.header.State.{State}
 use Rattle.pgm.specs.declared.header.State.TheVariants.{Magic, Version, Gap, Spaced, Comment, Number, Past, Unfit}
 use Rattle.pgm.specs.declared.header.Class.{Class}

@@ -1,5 +1,5 @@
 -- What reading a PGM file answers: by its header, a table of refusals and its raster.
-use Rattle.std.specs.Prelude.{◌≡◌, ℕ, ◌+◌, ◌*◌, ◌<◌, ◌≤◌, Bool, cond, not, ◌&&◌, ltb, List, [], ◌∷◌, ◌++◌, length, take, Some, None, Ok, Err, Option, Result, nat_le, nat_lt, slice_index}
+use Rattle.std.specs.Prelude.{◌≡◌, ℕ, ◌+◌, ◌*◌, ◌<◌, ◌≤◌, Bool, cond, not, ◌&&◌, ltb, List, [], ◌∷◌, ◌++◌, length, take, Some, None, Ok, Err, Result, nat_le, nat_lt, slice_index}
 use Rattle.faults.specs.declared.fault.Layer.TheVariants.{Pgm}
 use Rattle.faults.specs.declared.fault.Fault.{Fault}
 use Rattle.faults.specs.declared.fault.Fault.TheVariants.{Size, Top, Sample, OutputShort, PgmHeader, PgmRaster}

@@ -1,5 +1,5 @@
 -- Reads, writes and clearings of a flat store's records.
-use Rattle.std.proofs.Common.{◌≡◌, ℕ, ◌+◌, ◌*◌, ◌≤◌, Bool, true, false, ◌≢◌, List, length, get_or, set, ℤ, Some, None, Option, ap, ◌∙◌, arith, length-set, MatchOption}
+use Rattle.std.proofs.Common.{◌≡◌, ℕ, ◌+◌, ◌*◌, ◌≤◌, Bool, true, ◌≢◌, List, length, get_or, set, ℤ, Some, None, Option, ap, ◌∙◌, arith, length-set, MatchOption}
 use Rattle.std.proofs.lemmas.List.{get_or-set_other}
 use Rattle.planes.specs.declared.cell.Cell.{Cell}
 use Rattle.planes.specs.Planes.{Cells, with_at, written, marked, unmarked}

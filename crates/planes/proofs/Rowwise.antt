@@ -1,15 +1,12 @@
 -- Reads and writes of a list that holds a rectangle row by row.
-use Rattle.std.proofs.Common.{◌≡◌, ℕ, ◌+◌, ◌*◌, ◌/◌, ◌%◌, ◌<◌, ◌≤◌, Bool, true, false, cond, ◌&&◌, eqb, ltb, leb, ◌≢◌, List, length, get_or, set, ℤ, sym, refl, ap, ◌∙◌, subst, ⊎_elim, arith, length-set}
+use Rattle.std.proofs.Common.{◌≡◌, ℕ, ◌+◌, ◌*◌, ◌/◌, ◌%◌, ◌<◌, ◌≤◌, true, false, cond, ◌&&◌, eqb, ltb, ◌≢◌, List, length, get_or, set, sym, refl, ap, ◌∙◌, subst, ⊎_elim, arith, length-set}
 use mathlib.Core.Path.{fun_ext}
 use Rattle.std.proofs.lemmas.Bool.Decides.{nat_tests}
-use Rattle.std.proofs.lemmas.Bool.{cond_both, cond-true, cond-false, and_from, and_parts, lt-ltb, ltb-true, cases_Bool, eqb-true, eqb-false, eq-eqb}
+use Rattle.std.proofs.lemmas.Bool.{cond_both, cond-true, cond-false, and_parts, ltb-true, cases_Bool, eqb-true}
 use Rattle.std.proofs.lemmas.List.{get_or_read, get_or-set_same, get_or-set_other}
 use Rattle.std.proofs.lemmas.Nat.{mul-add-lt, div-mul-add, mod-mul-add}
-use Rattle.planes.specs.Planes.{Cells, with_at, written}
-use Rattle.planes.specs.declared.cell.Cell.{Cell}
-use Rattle.planes.proofs.Pictures.{same_picture}
+use Rattle.planes.specs.Planes.{Cells, with_at}
 use Rattle.planes.specs.Rowwise.{rowwise, usable, Inside}
-use Rattle.planes.specs.Flat.{flat_picture, flat_numbers, flat_bits, blank}
 
 -- the place of (i, j) is in the list
 pub in_list : (R C L i j : ℕ) → R * C ≤ L → i < R → j < C → i * C + j < L

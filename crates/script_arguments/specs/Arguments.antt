@@ -1,5 +1,5 @@
 -- The words after a command's name, taken one by one or as numbers.
-use Rattle.std.specs.Prelude.{ℕ, Bool, true, false, cond, ◌&&◌, List, [], ◌∷◌, length, Some, None, Ok, Err, Option, Result, nat_le, nat_lt, slice_index}
+use Rattle.std.specs.Prelude.{ℕ, Bool, true, cond, ◌&&◌, List, [], ◌∷◌, length, Some, None, Ok, Err, Option, Result, nat_le, nat_lt, slice_index}
 use Rattle.std.specs.Option.{ok_or}
 use Rattle.script_words.specs.Numbers.{number}
 use Rattle.kernels.specs.declared.choice.KernelChoice.{KernelChoice}

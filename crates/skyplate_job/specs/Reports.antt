@@ -1,5 +1,5 @@
 -- What the program writes for the bytes of a file.
-use Rattle.std.specs.Prelude.{◌≡◌, ℕ, ◌*◌, ◌≤◌, min, max, List, ◌++◌, take, replicate, Ok, Err, codes, decimal, fold}
+use Rattle.std.specs.Prelude.{ℕ, ◌*◌, min, max, List, ◌++◌, take, replicate, Ok, Err, codes, decimal, fold}
 use Rattle.faults.specs.declared.fault.Fault.{Fault}
 use Rattle.frames.specs.Frames.{frame_line, fault_frame}
 use Rattle.pgm.specs.declared.read.Picture.{Picture}

@@ -1,5 +1,5 @@
 -- What writing samples and copying cells make of a plane.
-use Rattle.std.specs.Prelude.{ℕ, Bool, true, cond, ◌&&◌, ℤ, pos, nat_lt}
+use Rattle.std.specs.Prelude.{Bool, true, cond, ◌&&◌, ℤ, pos, nat_lt}
 use Rattle.planes.specs.Planes.{Cells, Picture}
 
 -- Every place.

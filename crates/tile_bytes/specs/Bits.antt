@@ -1,5 +1,5 @@
 -- Change bits: the bit of cell m is in byte m div 8, with weight 2^(m mod 8).
-use Rattle.std.specs.Prelude.{◌≡◌, ℕ, ◌+◌, ◌-◌, ◌*◌, ◌/◌, ◌%◌, ◌^◌, Bool, not, ◌&&◌, ◌||◌, List, set, ◌==◌, bit_and, bit_or, slice_set}
+use Rattle.std.specs.Prelude.{◌≡◌, ℕ, ◌+◌, ◌-◌, ◌*◌, ◌/◌, ◌%◌, ◌^◌, Bool, not, ◌&&◌, ◌||◌, List, ◌==◌, bit_and, bit_or, slice_set}
 use Rattle.tile_bytes.specs.Bytes.{byte}
 
 -- the bit of weight 2^(m mod 8) in a byte is set

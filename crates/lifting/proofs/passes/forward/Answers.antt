@@ -1,6 +1,6 @@
-use Rattle.std.proofs.Common.{◌≡◌, ◌+◌, ◌<◌, ◌≤◌, false, ap, ◌∙◌, arith}
+use Rattle.std.proofs.Common.{◌≡◌, false, ap, ◌∙◌, arith}
 use Rattle.planes.specs.Planes.{Picture}
-use Rattle.lifting.specs.Passes.{cell_level, cell_forward, worked, with_bits, rounds_put}
+use Rattle.lifting.specs.Passes.{cell_level, cell_forward, worked, with_bits}
 use Rattle.lifting.specs.Walks.{lift_puts, lattice_puts}
 use Rattle.lifting.proofs.Rounds.{up_none, up_more, puts_none, puts_up, lift_round}
 use Rattle.lifting.proofs.Exact.{shows_transform}

@@ -1,4 +1,4 @@
-use Rattle.std.proofs.Common.{◌≡◌, ℕ, ◌+◌, ◌-◌, ◌<◌, ◌≤◌, false, sym, ap, ◌∙◌, subst, le_refl, arith}
+use Rattle.std.proofs.Common.{◌≡◌, ℕ, ◌+◌, ◌-◌, ◌<◌, false, ap, ◌∙◌, subst, le_refl, arith}
 use Rattle.planes.specs.Planes.{Picture}
 use Rattle.lifting.specs.Passes.{cell_unlevel, cell_undo, worked, with_bits, rounds_put}
 use Rattle.lifting.specs.Walks.{undo_puts, lattice_puts}

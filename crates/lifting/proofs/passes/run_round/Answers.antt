@@ -1,4 +1,4 @@
-use Rattle.std.proofs.Common.{◌≡◌, false, ap, ◌∙◌}
+use Rattle.std.proofs.Common.{ap, ◌∙◌}
 use Rattle.lifting.proofs.Rounds.{round_done, round_marked}
 use Rattle.lifting.proofs.passes.run_round.Goals as goal
 

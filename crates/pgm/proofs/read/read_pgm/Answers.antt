@@ -1,5 +1,5 @@
 -- Each way out of the reading, as a case of its statement.
-use Rattle.std.proofs.Common.{◌*◌, [], ◌∷◌, length, sym, ◌∙◌, arith}
+use Rattle.std.proofs.Common.{◌*◌, [], ◌∷◌, length, sym, ◌∙◌}
 use Rattle.std.proofs.lemmas.Nat.{mul-le}
 use Rattle.faults.proofs.FirstFault.{first_in_front, first_behind}
 use Rattle.pgm.specs.Reading.{no_header, declined, taken, size_checks, sample_check}

@@ -1,5 +1,5 @@
 -- One row more is copied.
-use Rattle.std.proofs.Common.{◌≡◌, ◌+◌, ◌*◌, ◌≤◌, ◌∙◌, add-mul, arith}
+use Rattle.std.proofs.Common.{◌≡◌, ◌+◌, ◌*◌, ◌∙◌, add-mul, arith}
 use Rattle.planes.proofs.Copying.{copied_onward}
 use Rattle.planes.proofs.copy.copy_out.Goals as goal
 

@@ -1,7 +1,5 @@
 -- Number by number.
 use Rattle.std.proofs.Common.{vec_items, sym, ap, ◌∙◌}
-use Rattle.std.specs.Option.{ok_or}
-use Rattle.script_arguments.specs.declared.mistake.Mistake.TheVariants.{NotANumber}
 use Rattle.script_arguments.specs.Arguments.{numbers}
 use Rattle.script_words.specs.Words.{words}
 use Rattle.script_arguments.proofs.Lists.{after, numbers_more, numbers_none, numbers_end, told_numbers}

@@ -1,5 +1,5 @@
 -- Sample by sample.
-use Rattle.std.proofs.Common.{◌≡◌, ◌<◌, get_or, Ok, vec_items, sym, ap, ◌∙◌, arith}
+use Rattle.std.proofs.Common.{◌<◌, get_or, Ok, sym, ap, ◌∙◌, arith}
 use Rattle.std.proofs.lemmas.List.{take_more, take_all}
 use Rattle.script_arguments.proofs.Lists.{samples_more, samples_none, samples_end, pushed_sample}
 use Rattle.script_arguments.proofs.arguments.samples_of.Goals as goal

@@ -1,5 +1,5 @@
 -- The samples so far are the front of the numbers, and what is left decides.
-use Rattle.std.proofs.Common.{◌≡◌, length, take, drop, vec_items}
+use Rattle.std.proofs.Common.{◌≡◌, take, drop, vec_items}
 use Rattle.script_arguments.specs.Arguments.{all_samples}
 use Rattle.script_arguments.proofs.arguments.samples_of.Given as goal
 

@@ -1,5 +1,5 @@
 -- The text was cut at its first end.
-use Rattle.std.proofs.Common.{◌∙◌, true-eqb}
+use Rattle.std.proofs.Common.{true-eqb}
 use Rattle.std.proofs.lemmas.List.{take_rest}
 use Rattle.script_words.proofs.Fronts.{no_pieces, cut_piece, nothing_after}
 use Rattle.script_words.proofs.pieces.next_piece.Goals as goal

@@ -1,6 +1,6 @@
 -- The put goes to the cell below.
 use Rattle.std.proofs.Common.{◌*◌, ◌^◌, to_z-of_z}
-use Rattle.planes.specs.Planes.{PutsNumber, PutsBit, Within}
+use Rattle.planes.specs.Planes.{PutsNumber}
 use Rattle.layers.proofs.Layers.{number_put, bit_put, frame_put}
 use Rattle.layers.proofs.level.LevelLayerStore.put.Goals as goal
 

@@ -1,7 +1,6 @@
-use Rattle.std.proofs.Common.{◌≡◌, ℕ, ◌^◌, ◌<◌, ◌≤◌, Bool, true, false, sym, refl, ap, ◌∙◌, arith}
-use Rattle.planes.specs.Planes.{Picture}
+use Rattle.std.proofs.Common.{◌^◌, ◌<◌, ◌≤◌, false, ◌∙◌}
 use Rattle.lifting.specs.Walks.{walked_rows, walked_columns}
-use Rattle.lifting.proofs.Sweeps.{Turns, turns, turn_counted, turn_changes, turn_done, turn_marked, partway_none, partway_row, partway_all, partway_size, bits_none, bits_row, bits_all}
+use Rattle.lifting.proofs.Sweeps.{turns, turn_counted, turn_changes, turn_done, turn_marked, partway_none, partway_row, partway_all, partway_size, bits_none, bits_row, bits_all}
 use Rattle.lifting.proofs.sweep.SweepPass.run.Goals as goal
 
 pub loop-row-init : goal.loop-row-init

@@ -1,5 +1,5 @@
 -- The rest is read as the whole would be.
-use Rattle.std.proofs.Common.{◌≡◌, ◌+◌, ◌-◌, ◌<◌, ◌≤◌, length, drop}
+use Rattle.std.proofs.Common.{◌≡◌, ◌-◌, ◌≤◌, length, drop}
 use Rattle.pgm.specs.Machine.{scan, Counted}
 use Rattle.pgm.proofs.header.Reader.number.Given as goal
 

@@ -1,4 +1,4 @@
-use Rattle.std.proofs.Common.{min, max, ap, ◌∙◌, arith}
+use Rattle.std.proofs.Common.{min, max, ap, ◌∙◌}
 use Rattle.std.proofs.lemmas.List.Sums.{fold_more}
 use Rattle.std.proofs.lemmas.List.{take_all}
 use Rattle.skyplate_job.specs.Reports.{smallest, largest}
