@@ -1,20 +1,19 @@
 -- A plate that was laid shows the plain plate that was laid.
-use Rattle.std.proofs.Common.{◌≡◌, ℕ, ◌+◌, ◌*◌, ◌<◌, ◌≤◌, Bool, true, false, not, ◌&&◌, eqb, ltb, leb, List, length, get_or, ℤ, pos, nat_abs, Some, None, Option, sym, refl, ap, ◌∙◌, subst, ⊎_elim, le_trans, le_of_eq, arith, MatchOption}
+use Rattle.std.proofs.Common.{◌≡◌, ℕ, ◌+◌, ◌*◌, ◌<◌, ◌≤◌, Bool, true, false, eqb, ltb, leb, List, length, get_or, nat_abs, Some, None, Option, sym, refl, ◌∙◌, subst, ⊎_elim, le_trans, le_of_eq, arith, MatchOption}
 use Rattle.std.proofs.lemmas.Bool.{leb-true, ltb-false, eqb-true, and_parts, cases_lt, le-leb, false≢true}
 use Rattle.std.proofs.lemmas.List.{get_or_past}
-use Rattle.faults.specs.Tables.{first_index}
 use Rattle.faults.proofs.FirstIndex.{fails_before}
 use Rattle.planes.specs.Planes.{Picture}
-use Rattle.wavelets.specs.Lifting.{Amounts, Cells, Plane, Agree, Bounded, forward, within_budget}
+use Rattle.wavelets.specs.Lifting.{Cells, Agree, forward, within_budget}
 use Rattle.wavelets.proofs.Counts.{no_number_differs, no_bit_differs}
 use Rattle.overlays.specs.Samples.{samples_at}
 use Rattle.overlays.specs.Samples as samples
 use Rattle.planes.specs.declared.rectangle.Rectangle.{Rectangle}
 use Rattle.works.specs.Works.{Laid}
 use Rattle.model.specs.declared.plan.Plan.{Plan}
-use Rattle.model.specs.Calls.{Numbers, samples_of, laying, done}
-use Rattle.model.specs.Plain.{Setting, Plain, why, after, reply, taken, laying_table, first_over, is_sample, pictured}
-use Rattle.plates.specs.Shows.{View, own_fault, Fitting, Shows}
+use Rattle.model.specs.Calls.{samples_of, laying, done}
+use Rattle.model.specs.Plain.{Setting, Plain, why, after, reply, laying_table, first_over, pictured}
+use Rattle.plates.specs.Shows.{View, own_fault, Shows}
 use Rattle.plates.proofs.Showing.{accepted, own_table}
 use Rattle.plates.proofs.Passing.{Passed, passed, not_false}
 use Rattle.plates.proofs.Samples.{over}

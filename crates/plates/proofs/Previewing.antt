@@ -1,7 +1,7 @@
 -- What an accepted preview shows is the plain plate's resolution.
-use Rattle.std.proofs.Common.{◌≡◌, ℕ, ◌*◌, ◌<◌, ◌≤◌, Bool, true, false, cond, not, ◌&&◌, ltb, leb, List, length, get_or, ℤ, pos, negsuc, is_some, Some, None, Option, sym, refl, ap, ◌∙◌, subst, le_trans, MatchOption}
+use Rattle.std.proofs.Common.{◌≡◌, ℕ, ◌*◌, ◌<◌, ◌≤◌, Bool, true, false, cond, not, ltb, leb, List, length, get_or, ℤ, pos, negsuc, Some, None, Option, sym, refl, ap, ◌∙◌, subst, le_trans, MatchOption}
 use Rattle.std.proofs.lemmas.Bool.{ltb-false, le-leb, eq-eqb, and_parts, false≢true}
-use Rattle.planes.specs.Copies.{nth_number, copy_fault}
+use Rattle.planes.specs.Copies.{nth_number}
 use Rattle.planes.specs.Rectangles.{leaves}
 use Rattle.planes.specs.declared.rectangle.Rectangle.{Rectangle}
 use Rattle.wavelets.specs.Lifting.{Cells, Plane, Agree, forward, resolution, size}
@@ -11,12 +11,12 @@ use Rattle.lifting.specs.Passes.{Budgeted}
 use Rattle.works.specs.Works.{Previewed, previews_there}
 use Rattle.model.specs.declared.card.Card.{Card}
 use Rattle.model.specs.declared.plan.Plan.{Plan}
-use Rattle.model.specs.Calls.{previewing, done}
+use Rattle.model.specs.Calls.{previewing}
 use Rattle.model.specs.Plain.{Setting, Plain, why, preview_table}
 use Rattle.plates.specs.Plans.{lawful_plan, lawful_lease, lawful_state}
-use Rattle.plates.specs.Shows.{View, own_fault, Fitting, Shows, preview_differences}
+use Rattle.plates.specs.Shows.{View, own_fault, Shows, preview_differences}
 use Rattle.plates.proofs.Showing.{own_table}
-use Rattle.plates.proofs.Passing.{Passed, passed, not_false}
+use Rattle.plates.proofs.Passing.{Passed, passed}
 use Rattle.plates.proofs.Laying.{picture_of}
 use Rattle.plates.proofs.Settling.{LawfulPlan, lawful_parts, can_be_made}
 

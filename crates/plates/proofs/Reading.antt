@@ -1,5 +1,5 @@
 -- A cell that was read is the plain plate's.
-use Rattle.std.proofs.Common.{◌≡◌, ℕ, ◌*◌, ◌^◌, ◌<◌, ◌≤◌, Bool, true, false, not, ◌&&◌, ltb, leb, ℤ, is_some, IfSome, Some, None, Option, sym, refl, ap, ◌∙◌, subst, le_trans}
+use Rattle.std.proofs.Common.{◌≡◌, ℕ, ◌*◌, ◌^◌, ◌<◌, ◌≤◌, Bool, true, false, not, ◌&&◌, ltb, leb, ℤ, is_some, IfSome, Some, None, Option, sym, ◌∙◌, subst, le_trans}
 use Rattle.std.proofs.lemmas.Bool.{leb-true, ltb-true, ltb-false, and_parts}
 use Rattle.planes.specs.declared.rectangle.Rectangle.{Rectangle}
 use Rattle.wavelets.specs.Lifting.{size}
@@ -8,7 +8,7 @@ use Rattle.wavelets.proofs.Lattices.{cell_inside}
 use Rattle.model.specs.declared.card.Card.{Card}
 use Rattle.model.specs.declared.plan.Plan.{Plan}
 use Rattle.model.specs.Calls.{reading, cell}
-use Rattle.model.specs.Plain.{Setting, Plain, why, given, cells_of, plan_or_none, reading_table, after, reply}
+use Rattle.model.specs.Plain.{Setting, Plain, why, cells_of, plan_or_none, reading_table, after, reply}
 use Rattle.plates.specs.Plans.{lawful_state}
 use Rattle.plates.specs.Shows.{View, Fitting, own_fault, Shows}
 use Rattle.plates.proofs.Showing.{accepted, own_table}

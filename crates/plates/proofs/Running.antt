@@ -1,5 +1,5 @@
 -- From steps to turns: what a plain plate says of a call, its history says.
-use Rattle.std.proofs.Common.{◌≡◌, ℕ, ◌*◌, Bool, true, false, not, List, [], ◌∷◌, length, get_or, ℤ, pos, is_some, IfSome, vec_items, Option, sym, refl, ap, ◌∙◌, subst}
+use Rattle.std.proofs.Common.{◌≡◌, ℕ, ◌*◌, Bool, true, not, List, [], ◌∷◌, length, get_or, ℤ, pos, is_some, IfSome, vec_items, Option, sym, refl, ap, ◌∙◌, subst}
 use mathlib.Core.Path.{fun_ext}
 use Rattle.std.specs.declared.option.Option.TheVariants as option
 use Rattle.faults.specs.declared.fault.Fault.{Fault}
@@ -17,7 +17,7 @@ use Rattle.plates.specs.declared.calls.Call.{Call}
 use Rattle.plates.specs.declared.calls.Call.TheVariants.{Lay, Lease, Settle, Surrender, Recall, Preview, Read, Clear}
 use Rattle.plates.specs.declared.calls.Turn.{Turn}
 use Rattle.plates.specs.Shows.{View, Fitting, Shows, lattice_rectangle, preview_differences}
-use Rattle.plates.specs.Runs.{said, BuffersLeft, output_differences, Counted, Stepped, Steps, Ran}
+use Rattle.plates.specs.Runs.{said, BuffersLeft, output_differences, Counted, Steps, Ran}
 use Rattle.plates.proofs.Passing.{passed, not_false}
 
 -- two pictures, or two planes of bits, that are equal at each place

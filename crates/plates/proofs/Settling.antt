@@ -1,12 +1,12 @@
 -- A plate that was settled shows the plain plate that was settled.
-use Rattle.std.proofs.Common.{◌≡◌, ℕ, ◌+◌, ◌*◌, ◌<◌, ◌≤◌, Bool, true, false, cond, not, ◌&&◌, ◌||◌, eqb, ltb, leb, List, length, get_or, ℤ, pos, nat_abs, is_some, Some, None, Option, unwrap_or, sym, refl, ap, ◌∙◌, subst, ⊎_elim, le_trans, le_of_eq, arith, MatchOption}
-use Rattle.std.proofs.lemmas.Bool.{leb-true, ltb-false, eqb-true, and_parts, and_from, le-leb, lt-ltb, false≢true}
+use Rattle.std.proofs.Common.{◌≡◌, ℕ, ◌*◌, ◌<◌, ◌≤◌, Bool, true, false, cond, not, ◌&&◌, ◌||◌, ltb, leb, List, length, nat_abs, is_some, Some, None, Option, unwrap_or, sym, refl, ap, ◌∙◌, subst, le_of_eq, arith, MatchOption}
+use Rattle.std.proofs.lemmas.Bool.{leb-true, ltb-false, eqb-true, and_parts, le-leb, lt-ltb, false≢true}
 use Rattle.std.proofs.lemmas.Bool.Decides.{nat_tests}
 use Rattle.planes.specs.Planes.{Picture}
 use Rattle.planes.specs.Rectangles.{leaves}
 use Rattle.planes.specs.Flat.{flat_fault, bad_side}
 use Rattle.planes.specs.declared.rectangle.Rectangle.{Rectangle}
-use Rattle.wavelets.specs.Lifting.{Amounts, Cells, Plane, Agree, Bounded, forward, within_budget}
+use Rattle.wavelets.specs.Lifting.{Cells, Plane, Agree, Bounded, forward, within_budget}
 use Rattle.wavelets.specs.Cone.{in_rectangle, in_cone, cone_count}
 use Rattle.wavelets.proofs.Counts.{no_number_differs, no_bit_differs}
 use Rattle.cones.specs.Rectangles.{rows_of, columns_of}
@@ -16,10 +16,10 @@ use Rattle.overlays.specs.Samples as samples
 use Rattle.overlays.specs.Samples.{samples_at}
 use Rattle.works.specs.Works.{Settled, settles_there}
 use Rattle.model.specs.declared.plan.Plan.{Plan}
-use Rattle.model.specs.Calls.{Numbers, samples_of, settling, settled, Reply}
-use Rattle.model.specs.Plain.{Setting, Plain, why, after, reply, taken, given, settling_table, is_side, is_top}
+use Rattle.model.specs.Calls.{samples_of, settling, settled}
+use Rattle.model.specs.Plain.{Setting, Plain, why, after, reply, settling_table, is_side, is_top}
 use Rattle.plates.specs.Plans.{lawful_plan, lawful_lease, lawful_state}
-use Rattle.plates.specs.Shows.{View, own_fault, Fitting, Shows}
+use Rattle.plates.specs.Shows.{View, own_fault, Shows}
 use Rattle.plates.proofs.Showing.{accepted, own_table}
 use Rattle.plates.proofs.Passing.{Passed, passed, not_false}
 use Rattle.plates.proofs.Laying.{all_lawful, picture_of, with_picture}

@@ -1,8 +1,8 @@
 -- How a plate comes to show a plain plate, and goes on showing it.
-use Rattle.std.proofs.Common.{◌≡◌, ℕ, Bool, true, false, Some, None, Option, sym, refl, ap, ◌∙◌, subst}
+use Rattle.std.proofs.Common.{◌≡◌, Bool, false, Some, None, sym, refl, ap, ◌∙◌, subst}
 use Rattle.faults.specs.declared.fault.Fault.{Fault}
-use Rattle.wavelets.specs.Lifting.{Cells, Plane, Agree}
-use Rattle.wavelets.specs.Counts.{differences, same_number, same_bit}
+use Rattle.wavelets.specs.Lifting.{Cells}
+use Rattle.wavelets.specs.Counts.{differences, same_number}
 use Rattle.wavelets.proofs.Counts.{no_number_differs, no_bit_differs}
 use Rattle.model.specs.Calls.{Call, laying, leasing, settling, surrendering, recalling, previewing, reading, clearing, Reply, declined}
 use Rattle.planes.specs.Planes.{Picture}

@@ -1,5 +1,5 @@
 -- One call of a list, by the call's own promise.
-use Rattle.std.proofs.Common.{◌≡◌, ℕ, ◌*◌, ◌≤◌, true, false, List, length, get_or, ℤ, pos, is_ok, Ok, Err, vec_items, Option, Result, Vec, sym, refl, ap, ◌∙◌, subst}
+use Rattle.std.proofs.Common.{◌≡◌, ℕ, ◌*◌, ◌≤◌, true, false, List, length, get_or, ℤ, pos, is_ok, Ok, Err, vec_items, Option, Result, Vec, sym, refl, ◌∙◌, subst}
 use Rattle.std.specs.declared.alloc.Global.{Global}
 use Rattle.std.specs.declared.option.Option.TheVariants as option
 use Rattle.faults.specs.declared.fault.Fault.{Fault}
@@ -11,9 +11,9 @@ use Rattle.model.specs.declared.card.Card.{Card}
 use Rattle.model.specs.Calls as plain
 use Rattle.model.specs.Plain.{Setting, Plain, why}
 use Rattle.plates.specs.declared.calls.Call.{Call}
-use Rattle.plates.specs.declared.calls.Call.TheVariants.{Lay, Lease, Settle, Surrender, Recall, Preview, Read, Clear}
+use Rattle.plates.specs.declared.calls.Call.TheVariants.{Lease, Settle, Recall, Preview, Read}
 use Rattle.plates.specs.declared.calls.Answer.{Answer}
-use Rattle.plates.specs.Shows.{View, Shows, Follows, own_fault, fault_in, answered, lattice_rectangle, preview_differences}
+use Rattle.plates.specs.Shows.{View, Shows, Follows, own_fault, fault_in, lattice_rectangle, preview_differences}
 use Rattle.plates.specs.Runs.{said, meant, BuffersLeft, Stepped}
 use Rattle.plates.proofs.Showing.{own_table}
 

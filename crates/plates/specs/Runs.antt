@@ -1,5 +1,5 @@
 -- What a list of calls comes to on a plate: the states it goes through, and what is counted after each call.
-use Rattle.std.specs.Prelude.{◌≡◌, ℕ, ◌*◌, ◌≤◌, Bool, true, false, not, List, [], ◌∷◌, length, ℤ, pos, is_some, vec_items, Option, Vec, slice_index_or}
+use Rattle.std.specs.Prelude.{◌≡◌, ℕ, ◌*◌, ◌≤◌, not, List, [], ◌∷◌, length, ℤ, pos, vec_items, Option, Vec, slice_index_or}
 use Rattle.std.specs.declared.alloc.Global.{Global}
 use Rattle.std.specs.declared.option.Option.TheVariants as option
 use Rattle.faults.specs.declared.fault.Fault.{Fault}

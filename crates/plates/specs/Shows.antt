@@ -1,5 +1,5 @@
 -- A plate shows a plain plate: the same plan, lease and serial, and no cell and no change bit that differs.
-use Rattle.std.specs.Prelude.{◌≡◌, ℕ, ◌*◌, ◌^◌, ◌<◌, ◌≤◌, Bool, true, false, not, List, ℤ, pos, IfSome, Some, None, Ok, Err, Option, Result, slice_index_or}
+use Rattle.std.specs.Prelude.{◌≡◌, ℕ, ◌*◌, ◌^◌, ◌<◌, ◌≤◌, Bool, not, List, ℤ, pos, IfSome, Some, None, Ok, Err, Option, Result, slice_index_or}
 use Rattle.faults.specs.declared.fault.Fault.{Fault}
 use Rattle.planes.specs.declared.plane.Plane as plane
 use Rattle.planes.specs.declared.plane.Store as store
@@ -29,7 +29,7 @@ pub record View : Type 0 where
   pub lease : Option Rectangle
   pub serial : ℕ
 
-abbrev pub seen : {S K : Type 0} → plane.Ghosts S → store.Ghosts S → kernel.Ghosts K → Plate S K → View
+abbrev pub seen : {S K : Type 0} → (a : plane.Ghosts S) (b : store.Ghosts S) (k : kernel.Ghosts K) → Plate S K b a k → View
 seen a b k p = record {
   number = p.number;
   height = (a.picture p.store).height;

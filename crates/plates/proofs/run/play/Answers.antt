@@ -1,5 +1,5 @@
 -- One call more at each round.
-use Rattle.std.proofs.Common.{◌≡◌, refl, ◌∙◌, arith}
+use Rattle.std.proofs.Common.{refl, ◌∙◌, arith}
 use Rattle.plates.specs.Shows.{seen}
 use Rattle.plates.proofs.Playing.{none_done, one_turn_more, all_done}
 use Rattle.plates.proofs.run.play.Goals as goal

@@ -1,5 +1,5 @@
 -- The list of steps, as turns from the plate just made.
-use Rattle.std.proofs.Common.{◌≡◌, [], refl, ◌∙◌, subst}
+use Rattle.std.proofs.Common.{[], ◌∙◌, subst}
 use Rattle.model.specs.Plain.{fresh}
 use Rattle.plates.specs.Shows.{View, seen, setting_of, Shows}
 use Rattle.plates.specs.Runs.{just_made, Steps}

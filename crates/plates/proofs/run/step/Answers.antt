@@ -1,12 +1,10 @@
 -- Each way through the match, by the promise of the call made there.
-use Rattle.std.proofs.Common.{◌≡◌, ℕ, List, length, get_or, ℤ, pos, vec_items, sym, refl, ap, ◌∙◌, subst, arith, w32, to_z, of_z}
+use Rattle.std.proofs.Common.{◌≡◌, length, get_or, pos, vec_items, sym, refl, ap, ◌∙◌, subst}
 use Rattle.std.specs.Vec.{with_items}
 use Rattle.std.specs.declared.option.Option.TheVariants as option
 use Rattle.std.proofs.lemmas.List.{with_items_is}
-use Rattle.std.proofs.lemmas.Int.{to_z-of_z}
-use Rattle.planes.specs.declared.cell.Cell.{Cell}
 use Rattle.model.specs.Calls as plain
-use Rattle.plates.specs.declared.calls.Call.TheVariants.{Lay, Lease, Settle, Surrender, Recall, Preview, Read, Clear}
+use Rattle.plates.specs.declared.calls.Call.TheVariants.{Lease, Settle, Recall, Preview, Read}
 use Rattle.plates.specs.Shows.{seen, Follows, answered, cell_as, own_fault, fault_in, lattice_rectangle, preview_differences}
 use Rattle.plates.proofs.Stepping.{stepped, rename_lease, lease_left, recall_left, read_left, settling_of, settle_left, previewing_of, preview_left}
 use Rattle.plates.proofs.run.step.Goals as goal

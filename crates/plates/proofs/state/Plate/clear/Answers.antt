@@ -1,10 +1,6 @@
 -- The picture is the same, and no bit is set.
-use Rattle.std.proofs.Common.{◌≡◌, ℕ, Bool, false, Some, None, sym, refl, ap, ◌∙◌, subst, rules}
-use Rattle.planes.specs.Planes.{Picture}
-use Rattle.wavelets.specs.Lifting.{Cells, Plane}
+use Rattle.std.proofs.Common.{sym, refl, ◌∙◌, rules}
 use Rattle.model.specs.Calls.{clearing, done}
-use Rattle.model.specs.Plain.{Setting, Plain, why, taken}
-use Rattle.plates.specs.Shows.{seen, View, Shows}
 use Rattle.plates.proofs.Showing.{accepted, own_table, cleared_shows}
 use Rattle.plates.proofs.state.Plate.clear.Goals as goal
 

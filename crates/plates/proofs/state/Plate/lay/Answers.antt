@@ -1,4 +1,4 @@
-use Rattle.std.proofs.Common.{◌≡◌, true, false, Some, None, sym, refl, ap, ◌∙◌}
+use Rattle.std.proofs.Common.{sym, refl}
 use Rattle.std.proofs.lemmas.Bool.{false≢true}
 use Rattle.plates.specs.Shows.{seen}
 use Rattle.plates.proofs.Laying.{laid_shows, was_laid}

@@ -1,5 +1,4 @@
 use Rattle.std.proofs.Common.{refl}
-use Rattle.plates.specs.Shows.{seen}
 use Rattle.plates.proofs.Showing.{shows_fresh}
 use Rattle.plates.proofs.state.Plate.new.Goals as goal
 

@@ -1,5 +1,5 @@
 -- The work on the scratch shows the resolution.
-use Rattle.std.proofs.Common.{◌≡◌, length, sym, refl, ◌∙◌}
+use Rattle.std.proofs.Common.{length, sym, refl, ◌∙◌}
 use Rattle.std.proofs.lemmas.Bool.{false≢true}
 use Rattle.model.specs.Calls.{previewing, done}
 use Rattle.plates.specs.Shows.{seen, lattice_rectangle}

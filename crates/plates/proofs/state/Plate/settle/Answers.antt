@@ -1,8 +1,7 @@
 -- The work on the store, and then the lease is ended.
-use Rattle.std.proofs.Common.{◌≡◌, ℕ, length, None, sym, refl, ap, ◌∙◌, subst}
+use Rattle.std.proofs.Common.{◌≡◌, length, None, sym, refl, ap, ◌∙◌}
 use Rattle.std.proofs.lemmas.Bool.{false≢true}
-use Rattle.model.specs.Calls.{settled, Reply, samples_of, settling}
-use Rattle.model.specs.Plain.{reply}
+use Rattle.model.specs.Calls.{settled, samples_of, settling}
 use Rattle.plates.specs.Shows.{seen, own_fault}
 use Rattle.plates.proofs.Settling.{settles}
 use Rattle.plates.proofs.state.Plate.settle.Goals as goal
