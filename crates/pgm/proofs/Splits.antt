@@ -1,18 +1,18 @@
 -- What may come at a state, as blanks, a numeral and the rest.
 use Rattle.std.proofs.Common.{◌≡◌, ℕ, ◌+◌, ◌-◌, ◌*◌, ◌≤◌, true, false, List, [], ◌∷◌, ◌++◌, map, length, sym, refl, ap, ◌∙◌, subst, inl, inr, ⊎_elim, append_assoc, arith}
-use Rattle.std.specs.List.{flat_map, AllByRecursion as All}
+use Rattle.std.specs.List.{flat_map, AllByRecursion}
 use Rattle.std.specs.Int.Digits.{number_from_digits_after}
 use Rattle.pgm.specs.Grammar.{IsBlank, IsDigit, Filler, Blanks, Numeral}
 use Rattle.pgm.proofs.Rests.{Skip, Dig, GapL}
 
 abbrev SomeFillers : List ℕ → Type 0
-SomeFillers g = (fs : List (List ℕ)) × All Filler fs × (g ≡ flat_map (λ f. f) fs)
+SomeFillers g = (fs : List (List ℕ)) × AllByRecursion Filler fs × (g ≡ flat_map (λ f. f) fs)
 
 abbrev Split : (List ℕ → Type 0) → List ℕ → Type 0
 Split K xs = (g ys : List ℕ) × SomeFillers g × K ys × (xs ≡ g ++ ys)
 
 abbrev SplitC : (List ℕ → Type 0) → List ℕ → Type 0
-SplitC K xs = (cs g ys : List ℕ) × All (λ c. c ≡ 10 → ⊥) cs × SomeFillers g × K ys × (xs ≡ cs ++ 10 ∷ (g ++ ys))
+SplitC K xs = (cs g ys : List ℕ) × AllByRecursion (λ c. c ≡ 10 → ⊥) cs × SomeFillers g × K ys × (xs ≡ cs ++ 10 ∷ (g ++ ys))
 
 module _ (K : List ℕ → Type 0) where
   now : (xs : List ℕ) → K xs → Split K xs
@@ -47,11 +47,11 @@ module _ (K : List ℕ → Type 0) where
   ready [] k = k
   ready (b ∷ ys) k = inl k
 
-  in_comment : (cs : List ℕ) → All (λ c. c ≡ 10 → ⊥) cs → (ys : List ℕ) → Skip false K ys → Skip true K (cs ++ 10 ∷ ys)
+  in_comment : (cs : List ℕ) → AllByRecursion (λ c. c ≡ 10 → ⊥) cs → (ys : List ℕ) → Skip false K ys → Skip true K (cs ++ 10 ∷ ys)
   in_comment [] h ys r = inl (refl, r)
   in_comment (c ∷ cs) h ys r = inr (h.0, in_comment cs h.1 ys r)
 
-  split_skip : (fs : List (List ℕ)) → All Filler fs → (ys : List ℕ) → K ys → Skip false K (flat_map (λ f. f) fs ++ ys)
+  split_skip : (fs : List (List ℕ)) → AllByRecursion Filler fs → (ys : List ℕ) → K ys → Skip false K (flat_map (λ f. f) fs ++ ys)
   split_skip [] h ys k = ready ys k
   split_skip (f ∷ fs) h ys k =
       let r = split_skip fs h.1 ys k in
@@ -62,7 +62,7 @@ module _ (K : List ℕ → Type 0) where
       h.0
 
 abbrev Digits : (ℕ → List ℕ → Type 0) → ℕ → ℕ → List ℕ → Type 0
-Digits K c n xs = (ds ys : List ℕ) × All IsDigit ds × (1 ≤ c + length ds) × (c + length ds ≤ 5) × K (number_from_digits_after 10 n (map (λ d. d - 48) ds)) ys × (xs ≡ ds ++ ys)
+Digits K c n xs = (ds ys : List ℕ) × AllByRecursion IsDigit ds × (1 ≤ c + length ds) × (c + length ds ≤ 5) × K (number_from_digits_after 10 n (map (λ d. d - 48) ds)) ys × (xs ≡ ds ++ ys)
 
 module _ (K : ℕ → List ℕ → Type 0) where
   dig_split : (xs : List ℕ) (c n : ℕ) → c ≤ 5 → Dig K c n xs → Digits K c n xs
@@ -73,7 +73,7 @@ module _ (K : ℕ → List ℕ → Type 0) where
       (λ p. let q = dig_split xs (c + 1) (n * 10 + (b - 48)) (omega arith) p.2 in (b ∷ q.0, q.1, (p.0, q.2), omega (arith, q.3), omega (arith, q.4), q.5, ap (λ t. b ∷ t) q.6))
       r
 
-  split_dig : (ds : List ℕ) (c n : ℕ) (ys : List ℕ) → All IsDigit ds → 1 ≤ c + length ds → c + length ds ≤ 5 → K (number_from_digits_after 10 n (map (λ d. d - 48) ds)) ys → Dig K c n (ds ++ ys)
+  split_dig : (ds : List ℕ) (c n : ℕ) (ys : List ℕ) → AllByRecursion IsDigit ds → 1 ≤ c + length ds → c + length ds ≤ 5 → K (number_from_digits_after 10 n (map (λ d. d - 48) ds)) ys → Dig K c n (ds ++ ys)
   split_dig [] c n [] h l m k = (omega arith, k)
   split_dig [] c n (y ∷ ys) h l m k = inl (omega arith, k)
   split_dig (d ∷ ds) c n ys h l m k = inr (h.0, omega arith, split_dig ds (c + 1) (n * 10 + (d - 48)) ys h.1 (omega arith) (omega arith) k)
@@ -82,7 +82,7 @@ module _ (K : ℕ → List ℕ → Type 0) where
   abbrev pub Item : List ℕ → Type 0
   Item xs = (n : ℕ) × (g ds ys : List ℕ) × Blanks g × Numeral ds n × K n ys × (xs ≡ g ++ (ds ++ ys))
 
-  item : (fs : List (List ℕ)) → 1 ≤ length fs → All Filler fs → (g ys : List ℕ) → g ≡ flat_map (λ f. f) fs → Dig K 0 0 ys → (xs : List ℕ) → xs ≡ g ++ ys → Item xs
+  item : (fs : List (List ℕ)) → 1 ≤ length fs → AllByRecursion Filler fs → (g ys : List ℕ) → g ≡ flat_map (λ f. f) fs → Dig K 0 0 ys → (xs : List ℕ) → xs ≡ g ++ ys → Item xs
   item fs l h g ys e r xs f =
       let q = dig_split ys 0 0 (omega arith) r in
       (number_from_digits_after 10 0 (map (λ d. d - 48) q.0), g, q.0, q.1, (fs, l, h, e), (q.2, omega (arith, q.3), omega (arith, q.4), refl), q.5, f ∙ ap (λ t. g ++ t) q.6)
@@ -102,7 +102,7 @@ module _ (K : ℕ → List ℕ → Type 0) where
       ((λ i. p.0 i ∷ q.6 i) ∙ ap (λ t. 35 ∷ t) (sym (append_assoc q.0 (10 ∷ q.1) q.2))))
       r
 
-  gap_of : (fs : List (List ℕ)) → 1 ≤ length fs → All Filler fs → (ys : List ℕ) → Dig K 0 0 ys → GapL K (flat_map (λ f. f) fs ++ ys)
+  gap_of : (fs : List (List ℕ)) → 1 ≤ length fs → AllByRecursion Filler fs → (ys : List ℕ) → Dig K 0 0 ys → GapL K (flat_map (λ f. f) fs ++ ys)
   gap_of [] l h ys k = absurd (omega arith)
   gap_of (f ∷ fs) l h ys k =
       let r = split_skip (Dig K 0 0) fs h.1 ys k in

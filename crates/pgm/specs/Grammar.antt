@@ -1,6 +1,6 @@
 -- The header of a PGM file, by its grammar.
 use Rattle.std.specs.Prelude.{◌≡◌, ℕ, ◌+◌, ◌-◌, ◌<◌, ◌≤◌, ◌⊎◌, List, [], ◌∷◌, ◌++◌, map, length, take, ◌≢◌}
-use Rattle.std.specs.List.{flat_map, AllByRecursion as All}
+use Rattle.std.specs.List.{flat_map, AllByRecursion}
 use Rattle.std.specs.Int.Digits.{number_from_digits}
 
 -- the bytes 9 to 13 and 32
@@ -12,15 +12,15 @@ IsDigit b = (48 ≤ b) × (b ≤ 57)
 
 -- a blank byte, or a comment from '#' to byte 10
 abbrev pub Filler : List ℕ → Type 0
-Filler xs = ((b : ℕ) × IsBlank b × (xs ≡ b ∷ [])) ⊎ ((cs : List ℕ) × All (λ c. c ≢ 10) cs × (xs ≡ 35 ∷ (cs ++ 10 ∷ [])))
+Filler xs = ((b : ℕ) × IsBlank b × (xs ≡ b ∷ [])) ⊎ ((cs : List ℕ) × AllByRecursion (λ c. c ≢ 10) cs × (xs ≡ 35 ∷ (cs ++ 10 ∷ [])))
 
 -- one or more of these
 abbrev pub Blanks : List ℕ → Type 0
-Blanks xs = (fs : List (List ℕ)) × (1 ≤ length fs) × All Filler fs × (xs ≡ flat_map (λ f. f) fs)
+Blanks xs = (fs : List (List ℕ)) × (1 ≤ length fs) × AllByRecursion Filler fs × (xs ≡ flat_map (λ f. f) fs)
 
 -- one to five decimal digits that write n
 abbrev pub Numeral : List ℕ → ℕ → Type 0
-Numeral ds n = All IsDigit ds × (1 ≤ length ds) × (length ds ≤ 5) × (n ≡ number_from_digits 10 (map (λ d. d - 48) ds))
+Numeral ds n = AllByRecursion IsDigit ds × (1 ≤ length ds) × (length ds ≤ 5) × (n ≡ number_from_digits 10 (map (λ d. d - 48) ds))
 
 -- these numbers, each after blanks, and then one blank byte
 abbrev pub Numbers : List ℕ → List ℕ → Type 0

@@ -1,7 +1,7 @@
 -- The line of each command is read as that command.
 use Rattle.std.proofs.Common.{◌≡◌, ℕ, ◌≤◌, min, Bool, true, false, cond, ltb, leb, List, [], ◌∷◌, map, length, replicate, pos, Some, None, Ok, Err, decimal, Option, sym, refl, ap, ◌∙◌, arith}
 use Rattle.std.specs.Option.{ok_or}
-use Rattle.std.specs.List.{AllByRecursion as All}
+use Rattle.std.specs.List.{AllByRecursion}
 use Rattle.std.proofs.lemmas.Bool.{and_from, le-leb, le-ltb, cond-true, cond-false}
 use Rattle.kernels.specs.declared.choice.KernelChoice.{KernelChoice}
 use Rattle.kernels.specs.declared.choice.KernelChoice.TheVariants.{FiveThree, STransform}
@@ -16,7 +16,7 @@ use Rattle.script_laws.specs.Writing.{spaced, kernel_word, start_words, request_
 use Rattle.script_laws.proofs.Splits.{words_of_spaced, number_of_decimal, decimal_is_a_word, decimals_are_words, numbers_of_decimals}
 
 -- a line of words is read by its words
-pub line_is_read : (ws : List (List ℕ)) (c : Command) → All (λ w. is_word w ≡ true) ws → stated_by ws ≡ Ok (Some c) → command_of (spaced ws) ≡ Ok (Some c)
+pub line_is_read : (ws : List (List ℕ)) (c : Command) → AllByRecursion (λ w. is_word w ≡ true) ws → stated_by ws ≡ Ok (Some c) → command_of (spaced ws) ≡ Ok (Some c)
 line_is_read ws c all e = ap stated_by (words_of_spaced ws all) ∙ e
 
 first_decimal : (n : ℕ) (others : List (List ℕ)) → Small n → first_number (decimal n ∷ others) ≡ Ok (n, others)
@@ -34,7 +34,7 @@ unfolding without
 kernel_is_a_word FiveThree = refl
 kernel_is_a_word STransform = refl
 
-pub start_has_words : (s : Start) → WritableStart s → All (λ w. is_word w ≡ true) (start_words s)
+pub start_has_words : (s : Start) → WritableStart s → AllByRecursion (λ w. is_word w ≡ true) (start_words s)
 unfolding without
 start_has_words (plate n k rows columns) fits = (refl, (decimal_is_a_word n fits.0, (kernel_is_a_word k, (decimal_is_a_word rows fits.1, (decimal_is_a_word columns fits.2, tt)))))
 start_has_words (file path n k) fits = (refl, (fits.0, (decimal_is_a_word n fits.1, (kernel_is_a_word k, tt))))
@@ -53,10 +53,10 @@ refilled x xs h =
     let e : min (length xs) 16777216 ≡ length xs = omega (arith, h.0) in
     ap (λ n. replicate n x) e ∙ sym h.1
 
-called : (name : CallName) (ns : List ℕ) → All Small ns → with Some (stated (Call name) (map decimal ns)) ≡ with Some (with request (call_of name ns))
+called : (name : CallName) (ns : List ℕ) → AllByRecursion Small ns → with Some (stated (Call name) (map decimal ns)) ≡ with Some (with request (call_of name ns))
 called name ns all = ap (λ o. with Some (with request (and_then (ok_or o NotANumber) (call_of name)))) (numbers_of_decimals ns all)
 
-is_call : (name : CallName) (ns : List ℕ) (r : Request) → All Small ns → call_of name ns ≡ Ok r
+is_call : (name : CallName) (ns : List ℕ) (r : Request) → AllByRecursion Small ns → call_of name ns ≡ Ok r
     → with Some (stated (Call name) (map decimal ns)) ≡ Ok (Some (request r))
 is_call name ns r all e = called name ns all ∙ ap (λ o. with Some (with request o)) e
 
@@ -89,7 +89,7 @@ name_is_a_word (preview level row column height width scratch output) = refl
 name_is_a_word (read level row column) = refl
 name_is_a_word clear = refl
 
-pub request_has_words : (r : Request) → WritableRequest r → All (λ w. is_word w ≡ true) (request_words r)
+pub request_has_words : (r : Request) → WritableRequest r → AllByRecursion (λ w. is_word w ≡ true) (request_words r)
 request_has_words r fits = (name_is_a_word r, decimals_are_words (request_numbers r) fits.0)
 
 -- sheet and save
@@ -98,7 +98,7 @@ finish_is_stated (sheet issue room) fits =
     rw (numbers_of_decimals (issue ∷ room ∷ []) (omega (arith, fits.0), (fits.1, tt)), le-leb issue 65535 fits.0)
 finish_is_stated (save path) fits = refl
 
-pub finish_has_words : (f : Finish) → WritableFinish f → All (λ w. is_word w ≡ true) (finish_words f)
+pub finish_has_words : (f : Finish) → WritableFinish f → AllByRecursion (λ w. is_word w ≡ true) (finish_words f)
 unfolding without
 finish_has_words (sheet issue room) fits = (refl, decimals_are_words (issue ∷ room ∷ []) (omega (arith, fits.0), (fits.1, tt)))
 finish_has_words (save path) fits = (refl, (fits, tt))

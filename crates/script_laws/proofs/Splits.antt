@@ -1,6 +1,6 @@
 -- Words, lines and numbers, taken apart again.
 use Rattle.std.proofs.Common.{◌≡◌, ℕ, ◌^◌, ◌<◌, ◌≤◌, Bool, true, false, cond, not, ◌&&◌, eqb, leb, List, [], ◌∷◌, ◌++◌, map, length, Some, None, decimal, Option, sym, refl, ap, ◌∙◌, append_assoc, arith, rules}
-use Rattle.std.specs.List.{flat_map, AllByRecursion as All}
+use Rattle.std.specs.List.{flat_map, AllByRecursion}
 use Rattle.std.proofs.lemmas.List.{append-nil}
 use Rattle.std.proofs.lemmas.Bool.{and_parts, and_from, not-true, not_from_false, eq-eqb, ne_eqb, le-leb, leb-true, cond-true, cond-false}
 use Rattle.std.proofs.lemmas.Bool.Decides.{nat_tests}
@@ -46,7 +46,7 @@ unfolding filled
 front_word [] ps h = absurd (search rules)
 front_word (b ∷ w) ps h = refl
 
-pub words_of_spaced : (ws : List (List ℕ)) → All (λ w. is_word w ≡ true) ws → words (spaced ws) ≡ ws
+pub words_of_spaced : (ws : List (List ℕ)) → AllByRecursion (λ w. is_word w ≡ true) ws → words (spaced ws) ≡ ws
 unfolding pieces filled
 words_of_spaced [] all = refl
 words_of_spaced ([] ∷ ws) all = absurd (search rules)
@@ -57,13 +57,13 @@ words_of_spaced ((b ∷ w) ∷ v ∷ ws) all =
     ∙ ap (λ l. (b ∷ w) ∷ l) (words_of_spaced (v ∷ ws) all.1)
 
 -- a line of words has no end inside
-pub spaced_has_no_end : (ws : List (List ℕ)) → All (λ w. is_word w ≡ true) ws → without 10 (spaced ws) ≡ true
+pub spaced_has_no_end : (ws : List (List ℕ)) → AllByRecursion (λ w. is_word w ≡ true) ws → without 10 (spaced ws) ≡ true
 unfolding without
 spaced_has_no_end [] all = refl
 spaced_has_no_end (w ∷ []) all = without_append 10 w [] (free_of_ends w all.0) refl
 spaced_has_no_end (w ∷ v ∷ ws) all = without_append 10 w (32 ∷ spaced (v ∷ ws)) (free_of_ends w all.0) (spaced_has_no_end (v ∷ ws) all.1)
 
-pub lines_of_ended : (ls : List (List ℕ)) → All (λ l. without 10 l ≡ true) ls → lines (ended ls) ≡ ls
+pub lines_of_ended : (ls : List (List ℕ)) → AllByRecursion (λ l. without 10 l ≡ true) ls → lines (ended ls) ≡ ls
 unfolding pieces
 lines_of_ended [] all = refl
 lines_of_ended (l ∷ ls) all =
@@ -97,11 +97,11 @@ decimal_is_a_word n small =
     and_from _ _ (not_from_false _ (ne_eqb (length (decimal n)) 0 (λ e. omega (arith, decimal_nonempty n h))))
     (and_from _ _ (digits_are_free 32 (decimal n) (omega arith) digits) (digits_are_free 10 (decimal n) (omega arith) digits))
 
-pub decimals_are_words : (ns : List ℕ) → All Small ns → All (λ w. is_word w ≡ true) (map decimal ns)
+pub decimals_are_words : (ns : List ℕ) → AllByRecursion Small ns → AllByRecursion (λ w. is_word w ≡ true) (map decimal ns)
 decimals_are_words [] all = tt
 decimals_are_words (n ∷ ns) all = (decimal_is_a_word n all.0, decimals_are_words ns all.1)
 
-pub numbers_of_decimals : (ns : List ℕ) → All Small ns → numbers (map decimal ns) ≡ Some ns
+pub numbers_of_decimals : (ns : List ℕ) → AllByRecursion Small ns → numbers (map decimal ns) ≡ Some ns
 unfolding numbers
 numbers_of_decimals [] all = refl
 numbers_of_decimals (n ∷ ns) all = ap (λ o. before o (numbers (map decimal ns))) (number_of_decimal n all.0) ∙ ap (before (Some n)) (numbers_of_decimals ns all.1)

@@ -1,6 +1,6 @@
 -- The whole text, line by line.
 use Rattle.std.proofs.Common.{◌≡◌, ℕ, ◌+◌, true, List, [], ◌∷◌, ◌++◌, map, length, Some, None, Ok, Err, Result, sym, refl, ap, ◌∙◌, append_assoc, add-zero, arith}
-use Rattle.std.specs.List.{AllByRecursion as All}
+use Rattle.std.specs.List.{AllByRecursion}
 use Rattle.std.proofs.lemmas.List.{append-nil, map-append}
 use Rattle.std.proofs.ByRecursion.{All-append}
 use Rattle.scripts.specs.declared.script.Wrong.{Wrong}
@@ -12,22 +12,22 @@ use Rattle.script_laws.proofs.Splits.{spaced_has_no_end, lines_of_ended}
 use Rattle.script_laws.proofs.Rows.{line_is_read, start_is_stated, start_has_words, request_is_stated, request_has_words, finish_is_stated, finish_has_words}
 
 -- no line has an end inside
-no_ends : (rows : List (List (List ℕ))) → All (λ ws. All (λ w. is_word w ≡ true) ws) rows → All (λ l. without 10 l ≡ true) (map spaced rows)
+no_ends : (rows : List (List (List ℕ))) → AllByRecursion (λ ws. AllByRecursion (λ w. is_word w ≡ true) ws) rows → AllByRecursion (λ l. without 10 l ≡ true) (map spaced rows)
 no_ends [] all = tt
 no_ends (ws ∷ rows) all = (spaced_has_no_end ws all.0, no_ends rows all.1)
 
-requests_have_words : (rs : List Request) → All WritableRequest rs → All (λ ws. All (λ w. is_word w ≡ true) ws) (map request_words rs)
+requests_have_words : (rs : List Request) → AllByRecursion WritableRequest rs → AllByRecursion (λ ws. AllByRecursion (λ w. is_word w ≡ true) ws) (map request_words rs)
 requests_have_words [] all = tt
 requests_have_words (r ∷ rs) all = (request_has_words r all.0, requests_have_words rs all.1)
 
-finishes_have_words : (fs : List Finish) → All WritableFinish fs → All (λ ws. All (λ w. is_word w ≡ true) ws) (map finish_words fs)
+finishes_have_words : (fs : List Finish) → AllByRecursion WritableFinish fs → AllByRecursion (λ ws. AllByRecursion (λ w. is_word w ≡ true) ws) (map finish_words fs)
 finishes_have_words [] all = tt
 finishes_have_words (f ∷ fs) all = (finish_has_words f all.0, finishes_have_words fs all.1)
 
 abbrev drafted : Start → List Request → List Finish → Draft
 drafted s rs fs = record { start_so_far = Some s; requests_so_far = rs; finishes_so_far = fs }
 
-read_requests : (s : Start) (done rs : List Request) (n : ℕ) (rest : List (List ℕ)) → All WritableRequest rs
+read_requests : (s : Start) (done rs : List Request) (n : ℕ) (rest : List (List ℕ)) → AllByRecursion WritableRequest rs
     → script_from (drafted s done []) n (map spaced (map request_words rs) ++ rest) ≡ script_from (drafted s (done ++ rs) []) (n + length rs) rest
 read_requests s done [] n rest all = ap (λ d. script_from (drafted s d []) n rest) (sym (append-nil done)) ∙ ap (λ m. script_from (drafted s (done ++ []) []) m rest) (sym (add-zero n))
 read_requests s done (r ∷ rs) n rest all =
@@ -38,7 +38,7 @@ read_requests s done (r ∷ rs) n rest all =
     ∙ ap (λ d. script_from (drafted s d []) (n + 1 + length rs) rest) (append_assoc done (r ∷ []) rs)
     ∙ ap (λ m. script_from (drafted s (done ++ r ∷ rs) []) m rest) count
 
-read_finishes : (s : Start) (rs : List Request) (done fs : List Finish) (n : ℕ) → All WritableFinish fs
+read_finishes : (s : Start) (rs : List Request) (done fs : List Finish) (n : ℕ) → AllByRecursion WritableFinish fs
     → script_from (drafted s rs done) n (map spaced (map finish_words fs)) ≡ Ok (record { start_of = s; requests = rs; finishes = done ++ fs })
 read_finishes s rs done [] n all = lines_end (drafted s rs done) n [] refl ∙ ap (λ d. Ok (record { start_of = s; requests = rs; finishes = d })) (sym (append-nil done))
 read_finishes s rs done (f ∷ fs) n all =

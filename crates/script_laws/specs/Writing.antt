@@ -1,6 +1,6 @@
 -- How a script is written: a line for each command, one space between two words, numbers in decimal.
 use Rattle.std.specs.Prelude.{◌≡◌, ℕ, ◌≤◌, Bool, true, false, not, ◌&&◌, List, [], ◌∷◌, ◌++◌, map, length, replicate, pos, codes, decimal, ◌==◌}
-use Rattle.std.specs.List.{flat_map, AllByRecursion as All}
+use Rattle.std.specs.List.{flat_map, AllByRecursion}
 use Rattle.kernels.specs.declared.choice.KernelChoice.{KernelChoice}
 use Rattle.kernels.specs.declared.choice.KernelChoice.TheVariants.{FiveThree, STransform}
 use Rattle.scripts.specs.Commands.{Start, plate, file, Request, lay, lease, settle, surrender, recall, preview, read, clear, Finish, sheet, save, Commands, blank_record}
@@ -74,7 +74,7 @@ WritableStart (file path n k) = (is_word path ≡ true) × Small n
 
 -- samples up to 65,535, and buffers as blank and as short as they can be asked for
 abbrev pub Samples : List ℕ → Type 0
-Samples xs = All (λ x. x ≤ 65535) xs
+Samples xs = AllByRecursion (λ x. x ≤ 65535) xs
 
 abbrev pub FilledWith : {X : Type 0} → X → List X → Type 0
 FilledWith x xs = (length xs ≤ 16777216) × (xs ≡ replicate (length xs) x)
@@ -90,7 +90,7 @@ Within (read level row column) = Unit {0}
 Within clear = Unit {0}
 
 abbrev pub WritableRequest : Request → Type 0
-WritableRequest r = All Small (request_numbers r) × Within r
+WritableRequest r = AllByRecursion Small (request_numbers r) × Within r
 
 abbrev pub WritableFinish : Finish → Type 0
 WritableFinish (sheet issue room) = (issue ≤ 65535) × Small room
@@ -98,5 +98,5 @@ WritableFinish (save path) = is_word path ≡ true
 
 pub record Writable (cs : Commands) : Type 0 where
   pub start_fits : WritableStart cs.start_of
-  pub requests_fit : All WritableRequest cs.requests
-  pub finishes_fit : All WritableFinish cs.finishes
+  pub requests_fit : AllByRecursion WritableRequest cs.requests
+  pub finishes_fit : AllByRecursion WritableFinish cs.finishes

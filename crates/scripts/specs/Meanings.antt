@@ -2,7 +2,7 @@
 pub use Rattle.script_commands.specs.Meanings.{meaning, start_meaning, finish_meaning, command_meaning}
 use Rattle.std.specs.Prelude.{◌≡◌, ℕ, List, map, Ok, Err, vec_items, Result}
 use Rattle.std.specs.Option.{option_map}
-use Rattle.std.specs.List.{AllByRecursion as All}
+use Rattle.std.specs.List.{AllByRecursion}
 use Rattle.plates.specs.declared.calls.Answer.TheVariants.{Pending}
 use Rattle.plates.specs.declared.calls.Turn.{Turn}
 use Rattle.script_arguments.specs.declared.flaw.Flaw.{Flaw}
@@ -34,7 +34,7 @@ draft_meaning d = record {
 
 -- every answer is still to come
 abbrev pub AllPending : List Turn → Type 0
-AllPending ts = All (λ t. t.answer ≡ Pending) ts
+AllPending ts = AllByRecursion (λ t. t.answer ≡ Pending) ts
 
 -- What the reading of a script promises: the commands of the text, or its first line in error; of want of memory nothing is said.
 abbrev pub ScriptRead : Result Script Trouble → Result Commands wrongs.Wrong → Type 0

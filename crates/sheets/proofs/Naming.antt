@@ -1,7 +1,7 @@
 -- The runs name the changed cells, each run cut as ruled.
 use Rattle.std.proofs.Common.{◌≡◌, ℕ, zero, suc, ◌+◌, ◌-◌, ◌<◌, ◌≤◌, Bool, true, false, cond, not, ◌||◌, eqb, ◌⊎◌, List, [], ◌∷◌, ◌++◌, ℤ, sym, refl, ap, ◌∙◌, inl, inr, append_assoc, append-nil, add-one, arith}
 use Rattle.std.specs.Option.{option_to_list}
-use Rattle.std.specs.List.{flat_map, AllByRecursion as All}
+use Rattle.std.specs.List.{flat_map, AllByRecursion}
 use Rattle.std.proofs.ByRecursion.{All-append}
 use Rattle.std.proofs.lemmas.Bool.{eqb-true}
 use Rattle.planes.specs.Planes.{Cells}
@@ -93,7 +93,7 @@ ways_to_cut b C c g h e = by (eqb g 15) refl (eqb (c + 1) C) refl (b (c + 1)) re
     by false p false q true s k = absurd (let z : ◌≡◌ {A = ℕ} 0 1 = ap (λ t. cond t 1 0) k in omega arith)
 
 module _ (b : Cells Bool) (R C r : ℕ) (lr : r < R) where
-  ended_cut : (c g : ℕ) (p : Part) → Way g (b r) C c p → c < C → g ≤ c → g ≤ 15 → All (CutAsRuled 16 b R C) (option_to_list (ended p r c g))
+  ended_cut : (c g : ℕ) (p : Part) → Way g (b r) C c p → c < C → g ≤ c → g ≤ 15 → AllByRecursion (CutAsRuled 16 b R C) (option_to_list (ended p r c g))
   ended_cut c g Out w lc h s = tt
   ended_cut c g Inner w lc h s = tt
   ended_cut c g Last (last e f) lc h s = (
@@ -101,7 +101,7 @@ module _ (b : Cells Bool) (R C r : ℕ) (lr : r < R) where
     tt,
   )
 
-  pub row_cut : (c : ℕ) → c ≤ C → All (CutAsRuled 16 b R C) (row_runs (b r) r C c)
+  pub row_cut : (c : ℕ) → c ≤ C → AllByRecursion (CutAsRuled 16 b R C) (row_runs (b r) r C c)
   unfolding row_runs
   row_cut zero h = tt
   row_cut (suc c) h =
@@ -109,7 +109,7 @@ module _ (b : Cells Bool) (R C r : ℕ) (lr : r < R) where
       All-append (CutAsRuled 16 b R C) (row_runs (b r) r C c) (option_to_list (ended (part g (b r) C c) r c g)) (row_cut c (omega arith))
       (ended_cut c g (part g (b r) C c) (way g (b r) C c) (omega arith) (begun_within (b r) C c) (begun_small (b r) C c))
 
-runs_cut : (b : Cells Bool) (R C r : ℕ) → r ≤ R → All (CutAsRuled 16 b R C) (runs b r C)
+runs_cut : (b : Cells Bool) (R C r : ℕ) → r ≤ R → AllByRecursion (CutAsRuled 16 b R C) (runs b r C)
 unfolding runs
 runs_cut b R C zero h = tt
 runs_cut b R C (suc r) h =

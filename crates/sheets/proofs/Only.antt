@@ -1,6 +1,6 @@
 -- No other runs name the changed cells, cut as ruled.
 use Rattle.std.proofs.Common.{◌≡◌, ℕ, zero, suc, ◌+◌, ◌<◌, ◌≤◌, Bool, true, false, cond, List, [], ◌∷◌, ◌++◌, length, get_or, drop, ℤ, sym, refl, ap, ◌∙◌, subst, ⊎_elim, arith}
-use Rattle.std.specs.List.{flat_map, AllByRecursion as All}
+use Rattle.std.specs.List.{flat_map, AllByRecursion}
 use Rattle.std.proofs.lemmas.List.{length-append, get_or_append_left, get_or_at, drop_at}
 use Rattle.std.proofs.ByRecursion.{All-append}
 use Rattle.std.proofs.lemmas.Bool.{cases_lt, false≢true}
@@ -11,11 +11,11 @@ use Rattle.sheets.specs.Laws.{CutAsRuled, NoOtherRunsDo}
 use Rattle.sheets.proofs.Naming.{the_runs_name}
 use Rattle.sheets.proofs.Sizes.{length_cells}
 
-all_left : {X : Type 0} (P : X → Type 0) (xs ys : List X) → All P (xs ++ ys) → All P xs
+all_left : {X : Type 0} (P : X → Type 0) (xs ys : List X) → AllByRecursion P (xs ++ ys) → AllByRecursion P xs
 all_left P [] ys a = tt
 all_left P (x ∷ xs) ys (p, a) = (p, all_left P xs ys a)
 
-all_right : {X : Type 0} (P : X → Type 0) (xs ys : List X) → All P (xs ++ ys) → All P ys
+all_right : {X : Type 0} (P : X → Type 0) (xs ys : List X) → AllByRecursion P (xs ++ ys) → AllByRecursion P ys
 all_right P [] ys a = a
 all_right P (x ∷ xs) ys (p, a) = all_right P xs ys a
 
@@ -23,16 +23,16 @@ all_right P (x ∷ xs) ys (p, a) = all_right P xs ys a
 abbrev IsSet : Cells Bool → Named → Type 0
 IsSet b a = b a.row a.column ≡ true
 
-changed_row_set : (x : Cells ℤ) (b : Cells Bool) (r c : ℕ) → All (IsSet b) (changed_in_row x b r c)
+changed_row_set : (x : Cells ℤ) (b : Cells Bool) (r c : ℕ) → AllByRecursion (IsSet b) (changed_in_row x b r c)
 unfolding changed_in_row
 changed_row_set x b r zero = tt
 changed_row_set x b r (suc c) = All-append (IsSet b) (changed_in_row x b r c) _ (changed_row_set x b r c) (by (b r c) refl)
   where
-    by : (v : Bool) → b r c ≡ v → All (IsSet b) (cond v (named x r c ∷ []) [])
+    by : (v : Bool) → b r c ≡ v → AllByRecursion (IsSet b) (cond v (named x r c ∷ []) [])
     by true e = (e, tt)
     by false e = tt
 
-changed_set : (x : Cells ℤ) (b : Cells Bool) (R C : ℕ) → All (IsSet b) (changed_cells x b R C)
+changed_set : (x : Cells ℤ) (b : Cells Bool) (R C : ℕ) → AllByRecursion (IsSet b) (changed_cells x b R C)
 unfolding changed_cells
 changed_set x b zero C = tt
 changed_set x b (suc r) C = All-append (IsSet b) (changed_cells x b r C) (changed_in_row x b r C) (changed_set x b r C) (changed_row_set x b r C)
@@ -49,7 +49,7 @@ cell_of x r c (suc n) i d h =
     get_or_at (cells_from x r c n) (named x r (c + n)) [] d i (length_cells x r c n ∙ e) ∙ ap (λ k. named x r (c + k)) e)
     (cases_lt i n)
 
-set_in_run : (x : Cells ℤ) (b : Cells Bool) (r c n i : ℕ) → All (IsSet b) (cells_from x r c n) → i < n → b r (c + i) ≡ true
+set_in_run : (x : Cells ℤ) (b : Cells Bool) (r c n i : ℕ) → AllByRecursion (IsSet b) (cells_from x r c n) → i < n → b r (c + i) ≡ true
 unfolding cells_from
 set_in_run x b r c zero i a h = absurd (omega arith)
 set_in_run x b r c (suc n) i a h =
@@ -59,7 +59,7 @@ set_in_run x b r c (suc n) i a h =
 
 module _ (x : Cells ℤ) (b : Cells Bool) (R C : ℕ) where
   -- a run that begins where another does is not shorter
-  not_shorter : (s t : Run) → CutAsRuled 16 b R C s → CutAsRuled 16 b R C t → All (IsSet b) (named_by x t) → s.row ≡ t.row → s.first ≡ t.first → s.count < t.count → ⊥
+  not_shorter : (s t : Run) → CutAsRuled 16 b R C s → CutAsRuled 16 b R C t → AllByRecursion (IsSet b) (named_by x t) → s.row ≡ t.row → s.first ≡ t.first → s.count < t.count → ⊥
   not_shorter s t cs ct set same_row same_first h =
       ⊎_elim (λ e. omega (arith, e, ct.not_longer, h))
       (⊎_elim (λ e. omega (arith, e, ct.in_its_columns, same_first, h))
@@ -67,7 +67,7 @@ module _ (x : Cells ℤ) (b : Cells Bool) (R C : ℕ) where
       cs.cut
 
   -- two lists of runs that name the same cells, all of them set
-  same_runs : (ss ts : List Run) → All (CutAsRuled 16 b R C) ss → All (CutAsRuled 16 b R C) ts → All (IsSet b) (flat_map (named_by x) ss) → flat_map (named_by x) ss ≡ flat_map (named_by x) ts → ss ≡ ts
+  same_runs : (ss ts : List Run) → AllByRecursion (CutAsRuled 16 b R C) ss → AllByRecursion (CutAsRuled 16 b R C) ts → AllByRecursion (IsSet b) (flat_map (named_by x) ss) → flat_map (named_by x) ss ≡ flat_map (named_by x) ts → ss ≡ ts
   same_runs [] [] cs ct set e = refl
   same_runs [] (t ∷ ts) cs (ct, cts) set e =
       absurd (omega (arith, ap length e, length-append (named_by x t) (flat_map (named_by x) ts), length_cells x t.row t.first t.count, ct.not_empty))
@@ -83,7 +83,7 @@ module _ (x : Cells ℤ) (b : Cells Bool) (R C : ℕ) where
       sym (first_of s others cs.not_empty) ∙ ap (λ l. get_or l 0 d) e ∙ first_of t rest ct.not_empty in
       let same_row : s.row ≡ t.row = ap (λ (a : Named). a.row) heads in
       let same_first : s.first ≡ t.first = omega (arith, ap (λ (a : Named). a.column) heads) in
-      let set_t : All (IsSet b) (named_by x t) = all_left (IsSet b) (named_by x t) rest (subst (All (IsSet b)) e set) in
+      let set_t : AllByRecursion (IsSet b) (named_by x t) = all_left (IsSet b) (named_by x t) rest (subst (AllByRecursion (IsSet b)) e set) in
       let same_count : s.count ≡ t.count =
       ⊎_elim (λ h. absurd (not_shorter s t cs ct set_t same_row same_first h))
       (λ h. ⊎_elim (λ k. absurd (not_shorter t s ct cs (all_left (IsSet b) (named_by x s) others set) (sym same_row) (sym same_first) k)) (λ k. omega (arith, h, k)) (cases_lt t.count s.count))
@@ -97,4 +97,4 @@ module _ (x : Cells ℤ) (b : Cells Bool) (R C : ℕ) where
 pub only_these : NoOtherRunsDo 16
 only_these x b R C rs n =
     let m = the_runs_name x b R C in
-    same_runs x b R C rs (runs b R C) n.each m.each (subst (All (IsSet b)) (sym n.names) (changed_set x b R C)) (n.names ∙ sym m.names)
+    same_runs x b R C rs (runs b R C) n.each m.each (subst (AllByRecursion (IsSet b)) (sym n.names) (changed_set x b R C)) (n.names ∙ sym m.names)

@@ -1,7 +1,7 @@
 -- How many runs and cells there are, and how long their lines are.
 use Rattle.std.proofs.Common.{◌≡◌, ℕ, zero, suc, ◌+◌, ◌-◌, ◌*◌, ◌^◌, ◌<◌, ◌≤◌, Bool, true, false, cond, List, [], ◌∷◌, ◌++◌, length, ℤ, Some, None, Option, sym, refl, ap, ◌∙◌, suc-mul, add-one, arith}
 use Rattle.std.specs.Option.{option_to_list}
-use Rattle.std.specs.List.{flat_map, AllByRecursion as All}
+use Rattle.std.specs.List.{flat_map, AllByRecursion}
 use Rattle.std.proofs.lemmas.List.{length-append}
 use Rattle.planes.specs.Planes.{Cells}
 use Rattle.frames.specs.Frames.{frame_line}
@@ -60,7 +60,7 @@ pub changed_more : (x : Cells ℤ) (b : Cells Bool) (C r : ℕ) → changed_cell
 unfolding changed_cells
 changed_more x b C r = ap (λ n. changed_cells x b n C) (add-one r)
 
-few_runs : (x : Cells ℤ) (b : Cells Bool) (R C : ℕ) (rs : List Run) → All (CutAsRuled 16 b R C) rs → length rs ≤ length (flat_map (named_by x) rs)
+few_runs : (x : Cells ℤ) (b : Cells Bool) (R C : ℕ) (rs : List Run) → AllByRecursion (CutAsRuled 16 b R C) rs → length rs ≤ length (flat_map (named_by x) rs)
 few_runs x b R C [] a = omega arith
 few_runs x b R C (run ∷ rs) (h, a) =
     omega (arith, h.not_empty, few_runs x b R C rs a, length_cells x run.row run.first run.count, length-append (named_by x run) (flat_map (named_by x) rs))

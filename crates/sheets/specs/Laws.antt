@@ -1,6 +1,6 @@
 -- What the runs of a sheet are, in their own words, and how long a sheet is.
 use Rattle.std.specs.Prelude.{◌≡◌, ℕ, ◌+◌, ◌*◌, ◌<◌, ◌≤◌, Bool, false, ◌⊎◌, List, length, ℤ}
-use Rattle.std.specs.List.{flat_map, AllByRecursion as All}
+use Rattle.std.specs.List.{flat_map, AllByRecursion}
 use Rattle.planes.specs.Planes.{Cells}
 use Rattle.sheets.specs.declared.frame.Head.{Head}
 use Rattle.sheets.specs.declared.runs.Run.{Run}
@@ -19,7 +19,7 @@ pub record CutAsRuled (most : ℕ) (b : Cells Bool) (R C : ℕ) (run : Run) : Ty
 -- cut as ruled.
 pub record NamesTheChangedCells (most : ℕ) (x : Cells ℤ) (b : Cells Bool) (R C : ℕ) (rs : List Run) : Type 0 where
   pub names : flat_map (named_by x) rs ≡ changed_cells x b R C
-  pub each : All (CutAsRuled most b R C) rs
+  pub each : AllByRecursion (CutAsRuled most b R C) rs
 
 abbrev pub TheRunsNameTheChangedCells : ℕ → Type 0
 TheRunsNameTheChangedCells most = (x : Cells ℤ) (b : Cells Bool) (R C : ℕ) → NamesTheChangedCells most x b R C (runs b R C)

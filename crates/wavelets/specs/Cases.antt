@@ -1,6 +1,6 @@
 -- The worked cases, as one list with one statement.
 use Rattle.std.specs.Prelude.{◌≡◌, ℕ, Bool, true, false, List, [], ◌∷◌, map, length, ℤ, pos, negsuc, ◌+ℤ◌, slice_index_or}
-use Rattle.std.specs.List.{range_with_len, AllByRecursion as All}
+use Rattle.std.specs.List.{range_with_len, AllByRecursion}
 use Rattle.wavelets.specs.Lifting.{Line, Cells, Plane, Amounts, size, lift, unlift, forward, inverse, resolution, five_three, s_transform, within_budget}
 use Rattle.wavelets.specs.declared.Span.{Span}
 use Rattle.wavelets.specs.Cone.{in_cone, cone_count}
@@ -87,7 +87,7 @@ cases =
     ∷ []
 
 abbrev pub WorkedCasesHold : Type 0
-WorkedCasesHold = All Holds cases
+WorkedCasesHold = AllByRecursion Holds cases
 
 -- The change from one row to the other, the cells after it, and those that a short cut would leave.
 abbrev pub change : List (List ℤ)

@@ -7,12 +7,12 @@ use Rattle.workshop_job.specs.Files.{new_length, no_new_file}
 use Rattle.workshop_job.proofs.Filing.{new_of_answer}
 use Rattle.workshop_job.proofs.filed.perform_new_file.Goals as goal
 
-pub returns-in_ok-fault_line : goal.returns-in_ok-fault_line
-returns-in_ok-fault_line c =
+pub returns-in_ok-fault_line-in-Err : goal.returns-in_ok-fault_line
+returns-in_ok-fault_line-in-Err c =
     let l : length c.deref_mut.result.now ≡ new_length c.args.rows c.args.columns = search rules in
     record {
       after_every_call_nothing_differs = no_new_file c.in-Err.fault (ap (format_fault c.args.rows c.args.columns) (sym l) ∙ c.in-Err.ensures.formats_the_file_or_declines.0) refl
-          (ap vec_items c.into_bytes-text.ensures.value ∙ c.in_ok-fault_line.ensures.is_the_line_of_the_fault);
+          (ap vec_items c.into_bytes-text.ensures.value ∙ c.in_ok-fault_line-in-Err.ensures.is_the_line_of_the_fault);
     }
 
 pub returns-in-Ok : goal.returns-in-Ok
