@@ -7,7 +7,7 @@ use Rattle.workshop_job.specs.Files.{new_length, no_new_file}
 use Rattle.workshop_job.proofs.Filing.{new_of_answer}
 use Rattle.workshop_job.proofs.filed.perform_new_file.Goals as goal
 
-pub returns-in_ok-fault_line-in-Err : goal.returns-in_ok-fault_line
+pub returns-in_ok-fault_line-in-Err : goal.returns-in_ok-fault_line-in-Err
 returns-in_ok-fault_line-in-Err c =
     let l : length c.deref_mut.result.now ≡ new_length c.args.rows c.args.columns = search rules in
     record {
