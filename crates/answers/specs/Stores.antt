@@ -1,5 +1,5 @@
 -- The lines that show a store.
-use Rattle.std.specs.Prelude.{ℕ, Bool, cond, List, [], ◌++◌, ℤ, codes, decimal, ◌==◌}
+use Rattle.std.specs.Prelude.{ℕ, Bool, cond, List, ◌++◌, ℤ, codes, decimal, ◌==◌}
 use Rattle.std.specs.List.{range_with_len, flat_map}
 use Rattle.std.specs.Fmt.{signed_decimal}
 use Rattle.planes.specs.Planes.{Cells}

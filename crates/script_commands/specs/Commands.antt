@@ -1,5 +1,5 @@
 -- The commands of a script with their arguments, paths, samples and buffers as lists.
-use Rattle.std.specs.Prelude.{ℕ, min, Bool, false, List, replicate, ℤ, pos}
+use Rattle.std.specs.Prelude.{ℕ, min, false, List, replicate, ℤ, pos}
 use Rattle.kernels.specs.declared.choice.KernelChoice.{KernelChoice}
 use Rattle.planes.specs.declared.cell.Cell.{Cell}
 use Rattle.model.specs.declared.plan.Plan.{Plan}

@@ -1,5 +1,5 @@
 -- The line of each command is read as that command.
-use Rattle.std.proofs.Common.{◌≡◌, ℕ, ◌≤◌, min, Bool, true, false, cond, ltb, leb, List, [], ◌∷◌, map, length, replicate, pos, Some, None, Ok, Err, decimal, Option, sym, refl, ap, ◌∙◌, arith}
+use Rattle.std.proofs.Common.{◌≡◌, ℕ, min, true, List, [], ◌∷◌, map, length, replicate, pos, Some, Ok, decimal, sym, refl, ap, ◌∙◌, arith}
 use Rattle.std.specs.Option.{ok_or}
 use Rattle.std.specs.List.{AllByRecursion}
 use Rattle.std.proofs.lemmas.Bool.{and_from, le-leb, le-ltb, cond-true, cond-false}
@@ -9,7 +9,7 @@ use Rattle.script_arguments.specs.declared.names.CallName.{CallName}
 use Rattle.script_arguments.specs.declared.names.CallName.TheVariants.{Lay, Lease, Settle, Surrender, Recall, Preview, Read, Clear}
 use Rattle.script_arguments.specs.declared.names.Name.TheVariants.{Call}
 use Rattle.script_arguments.specs.declared.mistake.Mistake.TheVariants.{NotANumber}
-use Rattle.script_arguments.specs.Arguments.{and_then, with, beside, first_number, numbers, samples, all_samples}
+use Rattle.script_arguments.specs.Arguments.{and_then, with, beside, first_number, samples, all_samples}
 use Rattle.script_commands.specs.Lines.{stated, stated_by, call_of, command_of}
 use Rattle.scripts.specs.Commands.{Start, plate, file, Request, lay, lease, settle, surrender, recall, preview, read, clear, Finish, sheet, save, Command, start, request, finish, blank_record, blank_records, zeros}
 use Rattle.script_laws.specs.Writing.{spaced, kernel_word, start_words, request_name, request_numbers, request_words, finish_words, without, is_word, Small, Samples, FilledWith, WritableStart, WritableRequest, WritableFinish}

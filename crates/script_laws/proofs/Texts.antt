@@ -1,13 +1,12 @@
 -- The whole text, line by line.
-use Rattle.std.proofs.Common.{◌≡◌, ℕ, ◌+◌, true, List, [], ◌∷◌, ◌++◌, map, length, Some, None, Ok, Err, Result, sym, refl, ap, ◌∙◌, append_assoc, add-zero, arith}
+use Rattle.std.proofs.Common.{◌≡◌, ℕ, ◌+◌, true, List, [], ◌∷◌, ◌++◌, map, length, Some, Ok, sym, refl, ap, ◌∙◌, append_assoc, add-zero, arith}
 use Rattle.std.specs.List.{AllByRecursion}
 use Rattle.std.proofs.lemmas.List.{append-nil, map-append}
 use Rattle.std.proofs.ByRecursion.{All-append}
-use Rattle.scripts.specs.declared.script.Wrong.{Wrong}
 use Rattle.scripts.specs.Commands.{Start, Request, Finish, start, request, finish, Commands}
 use Rattle.scripts.specs.Scripts.{Draft, no_draft, continued, script_from, script_of}
 use Rattle.scripts.proofs.Drafts.{line_more, lines_end}
-use Rattle.script_laws.specs.Writing.{spaced, start_words, request_words, finish_words, without, is_word, written, WritableStart, WritableRequest, WritableFinish, Writable}
+use Rattle.script_laws.specs.Writing.{spaced, start_words, request_words, finish_words, without, is_word, written, WritableRequest, WritableFinish, Writable}
 use Rattle.script_laws.proofs.Splits.{spaced_has_no_end, lines_of_ended}
 use Rattle.script_laws.proofs.Rows.{line_is_read, start_is_stated, start_has_words, request_is_stated, request_has_words, finish_is_stated, finish_has_words}
 

@@ -1,5 +1,5 @@
 -- How a script is written: a line for each command, one space between two words, numbers in decimal.
-use Rattle.std.specs.Prelude.{◌≡◌, ℕ, ◌≤◌, Bool, true, false, not, ◌&&◌, List, [], ◌∷◌, ◌++◌, map, length, replicate, pos, codes, decimal, ◌==◌}
+use Rattle.std.specs.Prelude.{◌≡◌, ℕ, ◌≤◌, Bool, true, not, ◌&&◌, List, [], ◌∷◌, ◌++◌, map, length, replicate, pos, codes, decimal, ◌==◌}
 use Rattle.std.specs.List.{flat_map, AllByRecursion}
 use Rattle.kernels.specs.declared.choice.KernelChoice.{KernelChoice}
 use Rattle.kernels.specs.declared.choice.KernelChoice.TheVariants.{FiveThree, STransform}

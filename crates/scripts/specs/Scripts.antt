@@ -1,7 +1,6 @@
 -- What a text states: a whole script, or its first line in error.
-use Rattle.std.specs.Prelude.{ℕ, ◌+◌, Bool, true, false, cond, not, List, [], ◌∷◌, ◌++◌, length, is_some, Some, None, Ok, Err, Option, Result, ◌==◌}
+use Rattle.std.specs.Prelude.{ℕ, ◌+◌, cond, not, List, [], ◌∷◌, ◌++◌, length, is_some, Some, None, Ok, Err, Option, Result, ◌==◌}
 use Rattle.script_words.specs.Words.{lines}
-use Rattle.script_arguments.specs.declared.mistake.Mistake.{Mistake}
 use Rattle.script_arguments.specs.declared.mistake.Mistake.TheVariants.{OpeningMissing, OpeningRepeated, CallAfterEnding, NoPlate}
 use Rattle.scripts.specs.declared.script.Wrong.{Wrong}
 use Rattle.scripts.specs.Commands.{Start, Request, Finish, Command, start, request, finish, Commands}

@@ -1,21 +1,19 @@
 -- Plates over tile files, as they are and as they are made.
-use Rattle.std.proofs.Common.{◌≡◌, ℕ, ◌≤◌, Bool, true, false, cond, List, length, is_some, IfOk, Some, None, Ok, Err, Option, Result, sym, refl, ap, ◌∙◌, subst, arith}
+use Rattle.std.proofs.Common.{◌≡◌, ℕ, ◌≤◌, cond, List, length, is_some, IfOk, Some, None, Ok, Err, Option, Result, sym, ap, ◌∙◌, subst, arith}
 use Rattle.std.proofs.lemmas.Bool.Decides.{nat_tests}
 use Rattle.faults.specs.declared.fault.Fault.{Fault}
 use Rattle.kernels.specs.declared.choice.KernelChoice.{KernelChoice}
 use Rattle.kernels.specs.Choices.{choice_amounts, choice_code}
 use Rattle.planes.specs.Planes.{Picture}
-use Rattle.tile_bytes.specs.Layout.{tile_count, slots_end}
-use Rattle.tiles.specs.Opening.{tile_fault, height, width, rows_said}
+use Rattle.tiles.specs.Opening.{tile_fault, height, rows_said}
 use Rattle.tiles.specs.Formatting.{format_fault, Formatted}
 use Rattle.tiles.specs.Files.{file_picture, file_bits}
 use Rattle.tiles.proofs.Blank.{a_formatted_file_is_blank}
 use Rattle.plates.specs.declared.calls.Turn.{Turn}
 use Rattle.plates.specs.Shows.{View}
-use Rattle.answers.specs.Lines.{fault_line}
 use Rattle.scripts.specs.declared.script.Ending.{Ending}
 use Rattle.workshop_job.specs.Performances.{Performed, blank_view}
-use Rattle.workshop_job.specs.Files.{file_view, new_length, PerformedFile, no_file, on_the_file, PerformedNewFile, no_new_file, on_the_new_file}
+use Rattle.workshop_job.specs.Files.{file_view, new_length, PerformedFile, no_file, on_the_file, PerformedNewFile, on_the_new_file}
 
 -- the bytes that were opened are those that were handed in, and those handed back are the store's
 pub filed : (n : ℕ) (k : KernelChoice) (xs zs ys ws : List ℕ) (ts us : List Turn) (es : List Ending) (text : List ℕ)

@@ -1,5 +1,5 @@
 -- The plan of a plain plate after a history has sides up to 4,096; so no plate needs more than 4,096 × 4,096 records or numbers.
-use Rattle.std.proofs.Common.{◌≡◌, ℕ, ◌+◌, ◌-◌, ◌*◌, ◌/◌, ◌^◌, ◌<◌, ◌≤◌, min, Bool, true, false, cond, not, ◌&&◌, ◌||◌, eqb, ltb, leb, List, [], ◌∷◌, ◌++◌, length, is_some, Some, None, Option, sym, refl, ap, ◌∙◌, subst, le_trans, mul-le-mul, arith}
+use Rattle.std.proofs.Common.{◌≡◌, ℕ, ◌*◌, ◌≤◌, min, Bool, true, false, cond, not, ◌&&◌, ltb, List, [], ◌∷◌, ◌++◌, length, is_some, Some, None, Option, refl, ap, ◌∙◌, mul-le-mul, arith}
 use Rattle.std.proofs.lemmas.Bool.Decides.{nat_tests}
 use Rattle.faults.specs.declared.fault.Fault.{Fault}
 use Rattle.faults.specs.declared.fault.Fault.TheVariants as fault
@@ -12,12 +12,11 @@ use Rattle.wavelets.proofs.Lattices.{size_at_most}
 use Rattle.model.specs.declared.plan.Plan.{Plan}
 use Rattle.model.specs.declared.card.Card.{Card}
 use Rattle.model.specs.Calls.{Numbers, Call, laying, leasing, settling, surrendering, recalling, previewing, reading, clearing}
-use Rattle.model.specs.Plain.{Setting, Plain, why, after_by, after, ended, plan_or_none, rectangle_or_none, is_side, samples_table, laying_table, is_out, ends_the_lease}
+use Rattle.model.specs.Plain.{Setting, Plain, why, after_by, ended, plan_or_none, rectangle_or_none, is_side, samples_table, is_out, ends_the_lease}
 use Rattle.model.specs.Laws.{after_history}
-use Rattle.plates.specs.Shows.{View}
-use Rattle.plates.specs.Sheets.{head_of, own_sheet, sheet_table}
+use Rattle.plates.specs.Sheets.{head_of, own_sheet}
 use Rattle.sheets.proofs.Sizes.{length_at_most}
-use Rattle.workshop_job.specs.Buffers.{enough, DecidesByCutBuffers, LongerBuffersChangeNoVerdict, LongerOutputsChangeNoSheet}
+use Rattle.workshop_job.specs.Buffers.{enough, LongerBuffersChangeNoVerdict, LongerOutputsChangeNoSheet}
 
 -- the sides of a plan are up to 4,096
 abbrev Small : Plan → Type 0

@@ -1,5 +1,5 @@
 -- The front of an output that a sheet was written to.
-use Rattle.std.proofs.Common.{◌≡◌, ℕ, List, length, take, drop, None, Option, sym, refl, ap, ◌∙◌}
+use Rattle.std.proofs.Common.{◌≡◌, ℕ, List, length, take, None, Option, sym, ap, ◌∙◌}
 use Rattle.std.proofs.lemmas.List.{take_at}
 use Rattle.faults.specs.Tables.{first_fault}
 use Rattle.frames.specs.Frames.{over}

@@ -4,7 +4,7 @@ use Rattle.faults.specs.declared.fault.Fault.{Fault}
 use Rattle.kernels.specs.declared.choice.KernelChoice.{KernelChoice}
 use Rattle.kernels.specs.Choices.{choice_amounts, choice_code}
 use Rattle.tile_bytes.specs.Layout.{tile_count, slots_end}
-use Rattle.tiles.specs.Opening.{tile_fault, height, width}
+use Rattle.tiles.specs.Opening.{tile_fault}
 use Rattle.tiles.specs.Formatting.{format_fault}
 use Rattle.tiles.specs.Files.{file_picture, file_bits}
 use Rattle.plates.specs.declared.calls.Turn.{Turn}

@@ -1,4 +1,4 @@
-use Rattle.std.proofs.Common.{◌≡◌, [], ap, ◌∙◌, to_z-of_z, w32, SFits, rules}
+use Rattle.std.proofs.Common.{[], ap, ◌∙◌, to_z-of_z, w32, SFits, rules}
 use Rattle.answers.specs.Stores.{cell_text}
 use Rattle.answers.proofs.Texts.{answered, grown, next_of_count}
 use Rattle.answers.proofs.stores.row_line.Goals as goal

@@ -1,4 +1,4 @@
-use Rattle.std.proofs.Common.{◌≡◌, ◌++◌, string_bytes, codes, decimal}
+use Rattle.std.proofs.Common.{◌≡◌, ◌++◌, string_bytes}
 use Rattle.std.specs.List.{range_with_len, flat_map}
 use Rattle.answers.specs.Stores.{row_line}
 use Rattle.answers.proofs.stores.store_text.Given as goal

@@ -1,7 +1,6 @@
 -- Line by line.
-use Rattle.std.proofs.Common.{◌≡◌, Err, sym, ◌∙◌, subst, arith}
+use Rattle.std.proofs.Common.{sym, ◌∙◌, subst, arith}
 use Rattle.scripts.specs.Meanings.{draft_meaning, ScriptRead}
-use Rattle.scripts.specs.Scripts.{script_of}
 use Rattle.scripts.proofs.Drafts.{line_more, lines_end, flawed}
 use Rattle.scripts.proofs.script.read_script.Goals as goal
 

@@ -2,7 +2,7 @@ use Rattle.std.proofs.Common.{◌≡◌, length, take, vec_items, sym, ap, ◌�
 use Rattle.std.specs.Vec.{with_items}
 use Rattle.std.proofs.lemmas.List.{with_items_is}
 use Rattle.plates.specs.Shows.{seen}
-use Rattle.plates.specs.Sheets.{own_sheet, sheet_table}
+use Rattle.plates.specs.Sheets.{own_sheet}
 use Rattle.workshop_job.specs.Endings.{sheet_room}
 use Rattle.workshop_job.proofs.Sheets.{front_of_over, none_declined}
 use Rattle.workshop_job.proofs.endings.sheet_lines.Goals as goal

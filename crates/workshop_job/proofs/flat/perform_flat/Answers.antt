@@ -1,4 +1,4 @@
-use Rattle.std.proofs.Common.{◌≡◌, length, vec_items, sym, ap, ◌∙◌}
+use Rattle.std.proofs.Common.{length, vec_items, sym, ap, ◌∙◌}
 use lib.ListN.{length-replicate}
 use Rattle.planes.specs.Flat.{blank, flat_fault}
 use Rattle.workshop_job.specs.Performances.{records}

@@ -1,5 +1,5 @@
 -- The run on the plate, and the text piece by piece.
-use Rattle.std.proofs.Common.{◌≡◌, vec_items, ap, ◌∙◌}
+use Rattle.std.proofs.Common.{vec_items, ap, ◌∙◌}
 use Rattle.plates.specs.Shows.{seen}
 use Rattle.answers.specs.Stores.{store_text}
 use Rattle.answers.proofs.Texts.{grown}

@@ -2,7 +2,6 @@
 use Rattle.std.proofs.ByRecursion.{All-push}
 use Rattle.std.proofs.Common.{refl}
 use Rattle.scripts.proofs.Drafts.{late_call, one_more_call}
-use Rattle.scripts.specs.Meanings.{AllPending}
 use Rattle.scripts.proofs.draft.Draft.with_call.Goals as goal
 
 pub returns-then-not-is_empty : goal.returns-then-not-is_empty
