@@ -16,13 +16,7 @@ fn level_of(number: usize) -> Level {
     }
 }
 
-#[unsafe(no_mangle)]
-pub extern "C" fn forward_five_three(
-    cells: &mut [Cell],
-    rows: usize,
-    columns: usize,
-    levels: usize,
-) {
+pub fn forward_five_three(cells: &mut [Cell], rows: usize, columns: usize, levels: usize) {
     let _store = forward(
         FlatStore::new(cells, rows, columns),
         &FiveThree,
@@ -30,13 +24,7 @@ pub extern "C" fn forward_five_three(
     );
 }
 
-#[unsafe(no_mangle)]
-pub extern "C" fn inverse_five_three(
-    cells: &mut [Cell],
-    rows: usize,
-    columns: usize,
-    levels: usize,
-) {
+pub fn inverse_five_three(cells: &mut [Cell], rows: usize, columns: usize, levels: usize) {
     let _store = inverse(
         FlatStore::new(cells, rows, columns),
         &FiveThree,
@@ -45,13 +33,7 @@ pub extern "C" fn inverse_five_three(
     );
 }
 
-#[unsafe(no_mangle)]
-pub extern "C" fn forward_s_transform(
-    cells: &mut [Cell],
-    rows: usize,
-    columns: usize,
-    levels: usize,
-) {
+pub fn forward_s_transform(cells: &mut [Cell], rows: usize, columns: usize, levels: usize) {
     let _store = forward(
         FlatStore::new(cells, rows, columns),
         &STransform,
@@ -59,13 +41,7 @@ pub extern "C" fn forward_s_transform(
     );
 }
 
-#[unsafe(no_mangle)]
-pub extern "C" fn inverse_s_transform(
-    cells: &mut [Cell],
-    rows: usize,
-    columns: usize,
-    levels: usize,
-) {
+pub fn inverse_s_transform(cells: &mut [Cell], rows: usize, columns: usize, levels: usize) {
     let _store = inverse(
         FlatStore::new(cells, rows, columns),
         &STransform,
@@ -74,8 +50,7 @@ pub extern "C" fn inverse_s_transform(
     );
 }
 
-#[unsafe(no_mangle)]
-pub extern "C" fn forward_chosen(
+pub fn forward_chosen(
     cells: &mut [Cell],
     rows: usize,
     columns: usize,
