@@ -1,8 +1,8 @@
 // A lease of a rectangle.
 ghost use Rattle.std.specs.Prelude.{◌≡◌};
 
-// Stands for one leased rectangle. It cannot be let go: one settles or surrenders it. Outside this module it can be neither built nor
-// taken apart.
+// Stands for one leased rectangle. It cannot be let go: one settles or surrenders it. Outside this crate it can be neither built nor
+// taken apart, and within it only by `given` and `spent`.
 pub struct Lease {
     plate: u32,
     serial: u32,

@@ -11,5 +11,5 @@ returns g c = record {
   keeps_the_kernel = search rules;
   follows_the_plain_plate = λ s p h.
       accepted s p clearing _ done (sym (own_table s p _ h clearing) ∙ (let e = c.in_default.ensures.is_the_first_row_that_holds in search rules))
-      (cleared_shows s p _ _ _ h c.clear.ensures.keeps_the_picture c.clear.ensures.unsets_every_bit) refl;
+      (cleared_shows s p _ _ _ h (search rules) (search rules)) refl;
 }

@@ -1,5 +1,5 @@
 -- The work on the store, and then the lease is ended.
-use Rattle.std.proofs.Common.{◌≡◌, length, None, sym, refl, ap, ◌∙◌}
+use Rattle.std.proofs.Common.{◌≡◌, length, None, sym, refl, ap, ◌∙◌, rules}
 use Rattle.std.proofs.lemmas.Bool.{false≢true}
 use Rattle.model.specs.Calls.{settled, samples_of, settling}
 use Rattle.plates.specs.Shows.{seen, own_fault}
@@ -24,5 +24,5 @@ returns g c =
           let r = settles s p v c.in-Some-Some.plan c.in-Some-Some.rectangle c.args.lease.plate c.args.lease.serial c.args.samples.now (length c.args.scratch.now) h
           c.in-Some-Some.is-0 c.in-Some-Some.is-1 c.args.self.now.lawful o c.level_of.result.number c.level_of.ensures.is_the_level
           (g.S.Plane.picture c.settle-count.new.store) (g.S.Store.bits c.settle-count.new.store) _ c.settle-count.result c.settle-count.ensures.settles_or_changes_nothing in
-          (r.0, ap settled c.unwrap_or.ensures ∙ r.1);
+          (r.0, ap settled (search rules) ∙ r.1);
     }
