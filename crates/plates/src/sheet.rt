@@ -5,7 +5,7 @@ ghost use Rattle.faults.specs.Tables.{first_fault};
 ghost use Rattle.model.specs.Plain.{Setting, Plain};
 ghost use Rattle.plates.specs.Plans.{lawful_plan};
 ghost use Rattle.plates.specs.Shows.{seen, Shows, fault_in};
-ghost use Rattle.plates.specs.Sheets.{head_of as sheet-head, sheet_table, own_sheet, plain_sheet, Sheeted};
+ghost use Rattle.plates.specs.Sheets.{head_of as sheet_head, sheet_table, own_sheet, plain_sheet, Sheeted};
 
 use crate::state::Plate;
 use faults::fault::{Fault, Layer};
@@ -18,7 +18,7 @@ use sheets::sheet::write_sheet;
 // What a sheet says of a plate with a plan.
 fn head_of(issue: u16, code: u8, plan: Plan) -> Head
     requires { lawful_plan plan ≡ true }
-    ensures says_the_plan { result ≡ sheet-head issue code plan }
+    ensures says_the_plan { result ≡ sheet_head issue code plan }
 {
     Head {
         issue,

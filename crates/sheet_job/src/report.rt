@@ -1,6 +1,6 @@
 // The whole job as one call.
 ghost use Rattle.std.specs.Prelude.{◌≡◌, ◌*◌, ◌≤◌, length, take, IfOk};
-ghost use Rattle.sheet_job.specs.Reports.{plan_of as Laid-by, SheetOrFault, Reports};
+ghost use Rattle.sheet_job.specs.Reports.{plan_of as laid_by, SheetOrFault, Reports};
 
 use crate::laying::lay_and_write;
 use faults::fault::Fault;
@@ -50,7 +50,7 @@ fn raster(samples: &[u16], picture: Picture) -> &[u16]
 
 // How a picture is laid: at two levels.
 fn plan_of(picture: Picture) -> Plan
-    ensures is_of_two_levels { result ≡ Laid-by picture }
+    ensures is_of_two_levels { result ≡ laid_by picture }
 {
     Plan {
         rows: picture.rows as usize,

@@ -2,7 +2,7 @@
 ghost use Rattle.std.specs.Prelude.{◌≡◌, ◌+◌, ◌*◌, ◌^◌, ◌<◌, ◌≤◌, length};
 ghost use Rattle.frames.specs.Frames.{over};
 ghost use Rattle.sheets.specs.Runs.{Inside};
-ghost use Rattle.sheets.specs.Sheets.{head_frame, number_bytes, run_head as head-of-run, run_frame as frame-of-run, end_frame as frame-of-end};
+ghost use Rattle.sheets.specs.Sheets.{head_frame, number_bytes, run_head as head_of_run, run_frame as frame_of_run, end_frame as frame_of_end};
 
 use crate::runs::Run;
 use frames::{four_bytes, two_bytes};
@@ -34,7 +34,7 @@ impl Head {
 
 // 03 and the number of cells.
 pub(crate) fn end_frame(cells: usize) -> [u8; 5]
-    ensures is_the_ends_frame { result ≡ frame-of-end cells }
+    ensures is_the_ends_frame { result ≡ frame_of_end cells }
 {
     let [n3, n2, n1, n0] = four_bytes(cells);
     [3, n3, n2, n1, n0]
@@ -43,7 +43,7 @@ pub(crate) fn end_frame(cells: usize) -> [u8; 5]
 // 02, row, first column and count.
 fn run_head(run: Run) -> [u8; 6]
     requires { run.count ≤ 16 }
-    ensures is_the_runs_head { result ≡ head-of-run run }
+    ensures is_the_runs_head { result ≡ head_of_run run }
 {
     let [r1, r0] = two_bytes(run.row);
     let [c1, c0] = two_bytes(run.first);
@@ -79,7 +79,7 @@ pub(crate) fn fill_frame<S: Store>(store: &S, run: Run, frame: &mut [u8])
     requires inside { Inside (S.Plane.picture store.now).height (S.Plane.picture store.now).width run }
     requires its_end { run.first + run.count < 2 ^ 64 }
     requires room { 6 + 4 * run.count ≤ length frame.old }
-    ensures writes_the_frame { frame.new ≡ over frame.old 0 (frame-of-run (S.Plane.picture store.now).number run) }
+    ensures writes_the_frame { frame.new ≡ over frame.old 0 (frame_of_run (S.Plane.picture store.now).number run) }
 {
     put(frame, 0, &run_head(run));
     for i in 0..run.count {

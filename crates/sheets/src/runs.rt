@@ -1,6 +1,6 @@
 // The runs of a row: cells next to each other whose bits are set, at most 16.
 ghost use Rattle.std.specs.Prelude.{◌≡◌, ◌+◌, ◌<◌, ◌≤◌};
-ghost use Rattle.sheets.specs.Runs.{is_cut as cut, part, still_begun, ended as run-ended};
+ghost use Rattle.sheets.specs.Runs.{is_cut as cut, part, still_begun, ended as run_ended};
 
 use planes::plane::Store;
 
@@ -77,7 +77,7 @@ impl Part {
     pub(crate) fn ended(self, row: usize, column: usize, begun: usize) -> Option<Run>
         requires in_the_row { begun ≤ column }
         requires a_few { begun ≤ 15 }
-        ensures is_the_run_that_ends_here { result ≡ run-ended self row column begun }
+        ensures is_the_run_that_ends_here { result ≡ run_ended self row column begun }
     {
         match self {
             Part::Last => Some(Run {
