@@ -4,17 +4,20 @@
 use anyhow::anyhow;
 use scripts::script::{Ending, Opening, Script, Trouble, Wrong, read_script};
 use std::io::{Read, Write};
+use std::process::ExitCode;
 use tile_disk::{read_plate, write_plate};
 use workshop_job::filed::{Performance, perform_file, perform_new_file};
 use workshop_job::flat::perform_flat;
 
-// Reports why the program ends early, and hands it on.
-fn main(rt: HostRuntime) -> anyhow::Result<()> {
-    let outcome = work(&rt);
-    if let Err(error) = &outcome {
-        eprintln!(rt; "{error}")?;
+// Reports why the program ends early, in its own words alone.
+fn main(rt: HostRuntime) -> ExitCode {
+    match work(&rt) {
+        Ok(()) => ExitCode::SUCCESS,
+        Err(error) => {
+            let _ = eprintln!(rt; "{error}");
+            ExitCode::FAILURE
+        }
     }
-    outcome
 }
 
 // The script that standard input states.
