@@ -1,5 +1,6 @@
 // The level layer: the lattice of a level of any store, which is a store itself.
-ghost use Rattle.std.specs.Prelude.{◌≡◌, ℕ, ◌*◌, ◌^◌, Bool, true, false, MatchOption};
+ghost use Rattle.std.specs.Prelude.{◌≡◌, ℕ, ◌*◌, ◌^◌, Bool, true, false, MatchResult};
+ghost use Rattle.faults.specs.declared.fault.Fault.TheVariants as faults;
 ghost use Rattle.planes.specs.Planes.{Within, PutsNumber, PutsBit, unmarked};
 ghost use Rattle.layers.specs.Layers.{sampled, lattice, LayerFrame, layer_still, layer_onward, SetsLevel};
 
@@ -48,32 +49,29 @@ impl<S: Plane> LevelLayer<S> {
         ensures leaves_the_store_as_it_was { self.new.below ≡ self.old.below }
         ensures sets_the_level_up_to_five { SetsLevel self.old.level.number number self.new.level.number result }
     {
-        match Level::new(number) {
-            Some(level) => {
-                self.go_to(level);
-                Ok(())
-            }
-            None => Err(Fault::Levels(Layer::Plane)),
-        }
+        let level = Level::new(number).ok_or(Fault::Levels(Layer::Plane))?;
+        self.go_to(level);
+        Ok(())
     }
 
-    // The place below on which a place of the lattice lies, if that is inside.
-    fn place_below(&self, at: LatticePlace) -> Option<PlatePlace>
-        ensures is_the_multiplied_place_inside { MatchOption result
-            ((Within (lattice self.now.level.number (S.Plane.picture self.now.below)) at.row at.column → ⊥)
-            × (Within (S.Plane.picture self.now.below) (at.row * 2 ^ self.now.level.number) (at.column * 2 ^ self.now.level.number) → ⊥))
+    // The place below on which a place of the lattice lies; declined exactly when it is outside.
+    fn place_below(&self, at: LatticePlace) -> Result<PlatePlace, Fault>
+        ensures is_the_multiplied_place_inside { MatchResult result
             (λ on. Within (lattice self.now.level.number (S.Plane.picture self.now.below)) at.row at.column
             × Within (S.Plane.picture self.now.below) on.row on.column
-            × (on.row ≡ at.row * 2 ^ self.now.level.number) × (on.column ≡ at.column * 2 ^ self.now.level.number)) }
+            × (on.row ≡ at.row * 2 ^ self.now.level.number) × (on.column ≡ at.column * 2 ^ self.now.level.number))
+            (λ fault. (Within (lattice self.now.level.number (S.Plane.picture self.now.below)) at.row at.column → ⊥)
+            × (Within (S.Plane.picture self.now.below) (at.row * 2 ^ self.now.level.number) (at.column * 2 ^ self.now.level.number) → ⊥)
+            × (fault ≡ faults.Outside)) }
     {
         let height = self.below.rows();
         let width = self.below.columns();
         let rows = self.level.side(height);
         let columns = self.level.side(width);
         if at.row < rows && at.column < columns {
-            Some(at.on_plate(self.level).unwrap())
+            Ok(at.on_plate(self.level).unwrap())
         } else {
-            None
+            Err(Fault::Outside)
         }
     }
 }
@@ -99,10 +97,8 @@ impl<S: Plane> Plane for LevelLayer<S> {
     }
 
     fn read(&self, row: usize, column: usize) -> Result<i32, Fault> {
-        match self.place_below(LatticePlace { row, column }) {
-            Some(at) => self.below.read(at.row, at.column),
-            None => Err(Fault::Outside),
-        }
+        let at = self.place_below(LatticePlace { row, column })?;
+        self.below.read(at.row, at.column)
     }
 }
 
@@ -129,17 +125,13 @@ impl<S: Store> Store for LevelLayer<S> {
         ensures writes_the_number_below { PutsNumber (S.Plane.picture self.old.below) (row * 2 ^ self.old.level.number) (column * 2 ^ self.old.level.number) number (S.Plane.picture self.new.below) result }
         ensures sets_the_bit_below { PutsBit (S.Plane.picture self.old.below) (S.Store.bits self.old.below) (row * 2 ^ self.old.level.number) (column * 2 ^ self.old.level.number) (S.Store.bits self.new.below) result }
     {
-        match self.place_below(LatticePlace { row, column }) {
-            Some(at) => put_at(&mut self.below, at, number),
-            None => Err(Fault::Outside),
-        }
+        let at = self.place_below(LatticePlace { row, column })?;
+        put_at(&mut self.below, at, number)
     }
 
     fn bit(&self, row: usize, column: usize) -> Result<bool, Fault> {
-        match self.place_below(LatticePlace { row, column }) {
-            Some(at) => self.below.bit(at.row, at.column),
-            None => Err(Fault::Outside),
-        }
+        let at = self.place_below(LatticePlace { row, column })?;
+        self.below.bit(at.row, at.column)
     }
 
     fn clear(&mut self)

@@ -1,5 +1,6 @@
 // Putting through a level layer and taking the store back: over any store, and in a buffer of records.
 ghost use Rattle.std.specs.Prelude.{◌≡◌, ℕ, ◌*◌, ◌^◌, Bool, true, false, length};
+ghost use Rattle.std.specs.Result.{result_err};
 ghost use Rattle.planes.specs.Flat.{flat_fault, made_side};
 ghost use Rattle.layers.specs.Through.{PutInside, MarkedInside, PutsRecord};
 
@@ -40,7 +41,7 @@ fn store_after<'a>(
 }
 
 // Puts a number at a place of a level's lattice, in a buffer that holds the plate's cells row by row;
-// answers the fault of the flat store, if there is one, and then the buffer stays as it was.
+// declined by the fault of the flat store, and then the buffer stays as it was.
 pub fn put_record(
     cells: &mut [Cell],
     rows: usize,
@@ -48,12 +49,14 @@ pub fn put_record(
     level: Level,
     at: LatticePlace,
     number: i32,
-) -> Option<Fault>
-    ensures is_the_stores_fault { result ≡ flat_fault rows columns (length cells.old) }
+) -> Result<(), Fault>
+    ensures is_the_stores_fault { result_err result ≡ flat_fault rows columns (length cells.old) }
     ensures puts_the_record { PutsRecord (made_side rows columns (length cells.old) rows) (made_side rows columns (length cells.old) columns)
         (at.row * 2 ^ level.number) (at.column * 2 ^ level.number) number cells.old cells.new }
 {
-    let fault = FlatStore::fault(cells, rows, columns);
+    if let Some(fault) = FlatStore::fault(cells, rows, columns) {
+        return Err(fault);
+    }
     let _store = store_after(cells, rows, columns, level, at, number);
-    fault
+    Ok(())
 }

@@ -10,6 +10,12 @@ pub struct Cell {
 }
 
 impl Cell {
+    // The record of a place at which nothing has been put.
+    pub const BLANK: Cell = Cell {
+        number: 0,
+        bit: false,
+    };
+
     // The record of a place to which a number was put.
     pub fn changed(number: i32) -> Cell
         ensures holds_the_number { result.number ≡ number }
@@ -23,9 +29,6 @@ impl Cell {
         ensures keeps_the_number { result.number ≡ self.number }
         ensures has_its_bit_unset { result.bit ≡ false }
     {
-        Cell {
-            number: self.number,
-            bit: false,
-        }
+        Cell { bit: false, ..self }
     }
 }

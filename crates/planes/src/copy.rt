@@ -1,5 +1,6 @@
 // Copying a rectangle of any plane out, row by row.
 ghost use Rattle.std.specs.Prelude.{◌≡◌, ℕ, ◌+◌, ◌*◌, ◌<◌, length};
+ghost use Rattle.std.specs.Result.{result_err};
 ghost use Rattle.planes.specs.Copies.{copy_fault, Ready, Copied, Copies};
 
 use crate::grid::{Grid, is_covered};
@@ -7,18 +8,24 @@ use crate::plane::Plane;
 use crate::rectangle::Rectangle;
 use faults::fault::{Fault, Layer};
 
-// The fault that copying a rectangle of a plane of some rows and columns into an output of some length would meet:
-// a rectangle that is empty or leaves the plane, then an output that is too short.
+// Declines a rectangle that is empty or leaves the plane, and then an output that is too short.
+fn check_copy(rows: usize, columns: usize, rectangle: Rectangle, room: usize) -> Result<(), Fault>
+    ensures declines_by_the_first_that_holds { result_err result ≡ copy_fault rows columns rectangle room }
+{
+    if rectangle.leaves(rows, columns) {
+        return Err(Fault::Rectangle(Layer::Plane));
+    }
+    if !is_covered(rectangle.height, rectangle.width, room) {
+        return Err(Fault::OutputShort(Layer::Plane));
+    }
+    Ok(())
+}
+
+// The fault that copying a rectangle of a plane of some rows and columns into an output of some length would meet.
 pub fn copy_fault(rows: usize, columns: usize, rectangle: Rectangle, room: usize) -> Option<Fault>
     ensures is_the_first_that_holds { result ≡ copy_fault rows columns rectangle room }
 {
-    if rectangle.leaves(rows, columns) {
-        Some(Fault::Rectangle(Layer::Plane))
-    } else if !is_covered(rectangle.height, rectangle.width, room) {
-        Some(Fault::OutputShort(Layer::Plane))
-    } else {
-        None
-    }
+    check_copy(rows, columns, rectangle, room).err()
 }
 
 // Copies the number at one place of a rectangle.
@@ -61,9 +68,7 @@ fn copy_row<P: Plane>(plane: &P, rectangle: Rectangle, row: usize, output: &mut 
 pub fn copy_out<P: Plane>(plane: &P, rectangle: Rectangle, output: &mut [i32]) -> Result<(), Fault>
     ensures copies_the_rectangle_or_declines { Copies (P.Plane.picture plane.now) rectangle output.old output.new result }
 {
-    if let Some(fault) = copy_fault(plane.rows(), plane.columns(), rectangle, output.len()) {
-        return Err(fault);
-    }
+    check_copy(plane.rows(), plane.columns(), rectangle, output.len())?;
     let mut grid = Grid {
         cells: output,
         rows: rectangle.height,

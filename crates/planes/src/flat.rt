@@ -1,6 +1,7 @@
 // The flat store: a rectangle of cell records, row by row, in a caller's buffer.
-ghost use Rattle.std.specs.Prelude.{◌≡◌, ℕ, ◌≤◌, Bool, true, false, cond, length, MatchOption, refl};
+ghost use Rattle.std.specs.Prelude.{◌≡◌, ℕ, ◌≤◌, Bool, true, false, cond, length, MatchResult, refl};
 ghost use Rattle.std.proofs.Common.{◌∙◌};
+ghost use Rattle.faults.specs.declared.fault.Fault.TheVariants as Fault;
 ghost use Rattle.planes.specs.Planes.{Within};
 ghost use Rattle.planes.specs.Flat.{flat_picture, flat_numbers, flat_bits, flat_fault, made_side, Clears, FlatFrame, flat_still, flat_onward};
 
@@ -43,15 +44,15 @@ impl<'a> Grid<'a, Cell> {
         }
     }
 
-    // The record of a place, if the place is inside.
-    fn record(&self, row: usize, column: usize) -> Option<Cell>
-        ensures holds_the_number_and_the_bit { MatchOption result
-            (Within (flat_picture self.now.rows self.now.columns self.now.cells.now) row column → ⊥)
+    // The record of a place; declined exactly when the place is outside.
+    fn record(&self, row: usize, column: usize) -> Result<Cell, Fault>
+        ensures holds_the_number_and_the_bit { MatchResult result
             (λ cell. Within (flat_picture self.now.rows self.now.columns self.now.cells.now) row column
             × (cell.number ≡ flat_numbers self.now.rows self.now.columns self.now.cells.now row column)
-            × (cell.bit ≡ flat_bits self.now.rows self.now.columns self.now.cells.now row column)) }
+            × (cell.bit ≡ flat_bits self.now.rows self.now.columns self.now.cells.now row column))
+            (λ fault. (Within (flat_picture self.now.rows self.now.columns self.now.cells.now) row column → ⊥) × (fault ≡ Fault.Outside)) }
     {
-        self.get(row, column)
+        self.get(row, column).ok_or(Fault::Outside)
     }
 }
 
@@ -60,8 +61,8 @@ fn clear_front(cells: &mut [Cell], count: usize)
     requires { count ≤ length cells.old }
     ensures clears_the_front { Clears count cells.old cells.new }
 {
-    for index in 0..count {
-        cells[index] = cells[index].cleared();
+    for cell in &mut cells[..count] {
+        *cell = cell.cleared();
     }
 }
 
@@ -77,10 +78,7 @@ impl<'a> Plane for Grid<'a, Cell> {
     }
 
     fn read(&self, row: usize, column: usize) -> Result<i32, Fault> {
-        match self.record(row, column) {
-            Some(cell) => Ok(cell.number),
-            None => Err(Fault::Outside),
-        }
+        Ok(self.record(row, column)?.number)
     }
 }
 
@@ -99,17 +97,12 @@ impl<'a> Store for Grid<'a, Cell> {
     ) };
 
     fn put(&mut self, row: usize, column: usize, number: i32) -> Result<(), Fault> {
-        match self.set(row, column, Cell::changed(number)) {
-            Some(_) => Ok(()),
-            None => Err(Fault::Outside),
-        }
+        self.set(row, column, Cell::changed(number))
+            .ok_or(Fault::Outside)
     }
 
     fn bit(&self, row: usize, column: usize) -> Result<bool, Fault> {
-        match self.record(row, column) {
-            Some(cell) => Ok(cell.bit),
-            None => Err(Fault::Outside),
-        }
+        Ok(self.record(row, column)?.bit)
     }
 
     fn clear(&mut self) {

@@ -1,6 +1,6 @@
--- The first records are cleared, up to the index.
+-- The records before the cell are cleared.
 use Rattle.planes.specs.Flat.{Clears}
 use Rattle.planes.proofs.flat.clear_front.Given as goal
 
-abbrev pub invariant-loop-index : goal.invariant-loop-index
-invariant-loop-index l = Clears l.index l.initial.cells l.cells
+abbrev pub invariant-loop-cell : goal.invariant-loop-cell
+invariant-loop-cell l = Clears l.cell-index l.initial.cell-items l.cell-items

@@ -45,4 +45,4 @@ returns-else-at-rows g c =
     let rows : c.side-rows.result ≡ lattice_side k p.height = rw (← c.rows-height.ensures.is_the_height) c.side-rows.ensures.is_the_lattices_side in
     let columns : c.side-columns.result ≡ lattice_side k p.width = rw (← c.columns-width.ensures.is_the_width) c.side-columns.ensures.is_the_lattices_side in
     let off : Within (lattice k p) c.args.at.row c.args.at.column → ⊥ = (λ w. ⊎_elim (λ h. omega (arith, rows, columns)) (λ h. omega (arith, rows, columns)) c.else-at-rows.either) in
-    record { is_the_multiplied_place_inside = (off, λ w. off (side_outside k _ _ w.0, side_outside k _ _ w.1)) }
+    record { is_the_multiplied_place_inside = (off, λ w. off (side_outside k _ _ w.0, side_outside k _ _ w.1), refl) }

@@ -4,9 +4,9 @@ use Rattle.planes.specs.Planes.{PutsNumber}
 use Rattle.layers.proofs.Layers.{number_put, bit_put, frame_put}
 use Rattle.layers.proofs.level.LevelLayerStore.put.Goals as goal
 
-pub returns-in-Some : goal.returns-in-Some
-returns-in-Some g c =
-    let at = c.in-Some.ensures.is_the_multiplied_place_inside in
+pub returns : goal.returns
+returns g c =
+    let at = c.in_ok-at.ensures.is_the_multiplied_place_inside in
     let k = c.args.self.now.level.number in
     let p = g.S.Plane.picture c.args.self.now.below in
     let q = g.S.Plane.picture c.put_at.new.plate in
