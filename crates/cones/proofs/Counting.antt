@@ -1,5 +1,9 @@
 -- A count on the way, stated so that a count of nothing is plainly 0.
-use Rattle.std.proofs.Common.{◌≡◌, ℕ, zero, suc, ◌*◌, ◌<◌, ◌≤◌, Bool, true, false, cond, sym, refl, ◌∙◌, suc-mul, mul-one, arith}
+use Rattle.std.proofs.Common.{◌≡◌, ℕ, zero, suc, ◌+◌, ◌*◌, ◌<◌, ◌≤◌, Bool, true, false, cond, ap, sym, refl, ◌∙◌, suc-mul, mul-one, add-one, arith}
+use Rattle.std.specs.List.{count_by, range_with_len}
+use Rattle.std.proofs.lemmas.List.{map-id}
+use Rattle.std.proofs.lemmas.List.FromFn.{sum_by-map-range_with_len_more}
+use Rattle.wavelets.proofs.Counts.{count_line_more}
 use Rattle.wavelets.specs.Lifting.{Cells}
 use Rattle.wavelets.specs.Counts.{total, count_line, count_cells}
 
@@ -49,3 +53,12 @@ count_line_at_most n p = rw (mul-one n) at (total_at_most n 1 _ (λ i. one_at_mo
 pub count_cells_at_most : (R C : ℕ) (p : Cells Bool) → count_cells R C p ≤ R * C
 unfolding count_cells
 count_cells_at_most R C p = total_at_most R C _ (λ r. count_line_at_most C (p r))
+
+-- the places of a line that pass, counted in their order
+pub counted : (p : ℕ → Bool) (n : ℕ) → count_by p (range_with_len 0 n) ≡ count_line n p
+unfolding count_line total
+counted p zero = refl
+counted p (suc n) =
+    let more : count_by p (range_with_len 0 (n + 1)) ≡ count_by p (range_with_len 0 n) + cond (p n) 1 0
+    = rw (map-id (range_with_len 0 (n + 1)), map-id (range_with_len 0 n)) at (sum_by-map-range_with_len_more (λ i. cond {A = ℕ} (p i) 1 0) (λ x. x) 0 n n (omega arith)) in
+    rw (add-one n) at (more ∙ ap (λ z. z + cond (p n) 1 0) (counted p n) ∙ sym (count_line_more n p))

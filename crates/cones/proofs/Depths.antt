@@ -1,7 +1,7 @@
 -- The depth of a cell, found from level 0 upward.
-use Rattle.std.proofs.Common.{◌≡◌, ℕ, zero, suc, ◌+◌, ◌<◌, ◌≤◌, true, false, ◌&&◌, ltb, sym, ◌∙◌, ⊎_elim, add-one, arith}
+use Rattle.std.proofs.Common.{◌≡◌, ℕ, zero, suc, ◌+◌, ◌<◌, ◌≤◌, true, false, sym, ◌∙◌, ⊎_elim, add-one, arith}
 use native.Mathlib.Nat.{mod-one}
-use Rattle.std.proofs.lemmas.Bool.{cases_lt, lt-ltb, ltb-true, and_parts}
+use Rattle.std.proofs.lemmas.Bool.{cases_lt}
 use Rattle.wavelets.specs.Lifting.{on}
 use Rattle.wavelets.specs.Cone.{depth}
 use Rattle.wavelets.proofs.Lattices.{off_above}
@@ -26,9 +26,6 @@ last_is (suc l) k r c h o n =
     (λ g. last_is l k r c g o (λ _. n (omega arith)) ∙ sym (depth_off l r c (off_from (suc l) (suc k) r c (omega arith) (n (omega arith)))))
     (cases_lt l k)
 
--- what the test of the next lattice tells of level k: where it fails, k is the depth
-pub deeper : (l k r c : ℕ) → true ≡ (ltb k l && on (k + 1) r c) → (on (k + 1) r c ≡ true) × (k + 1 ≤ l)
-deeper l k r c h = let both = and_parts (ltb k l) (on (k + 1) r c) (sym h) in (both.1, omega (arith, ltb-true k l both.0))
-
-pub depth_is : (l k r c : ℕ) → on k r c ≡ true → k ≤ l → false ≡ (ltb k l && on (k + 1) r c) → k ≡ depth l r c
-depth_is l k r c o h n = last_is l k r c h o (λ g. rw (lt-ltb k l g, add-one) at (sym n))
+-- a cell on the lattice of level k, and not on the next one where there is such, has the depth k
+pub depth_is : (l k r c : ℕ) → k ≤ l → on k r c ≡ true → (k < l → on (k + 1) r c ≡ false) → k ≡ depth l r c
+depth_is l k r c h o n = last_is l k r c h o (λ g. rw add-one at (n g))

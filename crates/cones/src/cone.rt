@@ -1,7 +1,8 @@
 // The cone of a rectangle: the test of a cell, and how many cells pass it.
 ghost use Rattle.std.specs.Prelude.{◌≡◌, true, false, MatchOption};
+ghost use Rattle.std.specs.List.{count_by, range_with_len};
 ghost use Rattle.planes.specs.Rectangles.{leaves};
-ghost use Rattle.wavelets.specs.Counts.{count_line, count_cells};
+ghost use Rattle.wavelets.specs.Counts.{count_cells};
 ghost use Rattle.wavelets.specs.Cone.{in_cone};
 ghost use Rattle.cones.specs.Rectangles.{rows_of, columns_of};
 ghost use Rattle.cones.specs.Cones.{cone_cells, in_cone_at_depth};
@@ -84,15 +85,11 @@ impl Cone {
 
     // How many cells of a row are in the cone.
     fn count_row(&self, row: usize) -> usize
-        ensures counts_the_row { result ≡ count_line self.now.columns.side (cone_cells self.now row) }
+        ensures counts_the_row { result ≡ count_by (cone_cells self.now row) (range_with_len 0 self.now.columns.side) }
     {
-        let mut count = 0;
-        for column in 0..self.columns.side {
-            if self.contains(row, column) {
-                count += 1;
-            }
-        }
-        count
+        (0..self.columns.side)
+            .filter(|column| self.contains(row, *column))
+            .count()
     }
 
     // How many cells are in the cone; every such number has a place in 128 bits.

@@ -13,20 +13,14 @@ pub fn is_on(level: Level, row: usize, column: usize) -> bool
     row % step == 0 && column % step == 0
 }
 
-// Whether a cell is on the lattice of the next level, and that is one of the levels.
-fn is_deeper(levels: Level, level: usize, row: usize, column: usize) -> bool
-    ensures is_on_the_next_lattice { result ≡ (nat_lt level levels.number && on (level + 1) row column) }
-{
-    level < levels.number && is_on(Level { number: level + 1 }, row, column)
-}
-
 // The largest level, up to the number of levels, on whose lattice a cell is.
 pub fn depth_of(levels: Level, row: usize, column: usize) -> Level
     ensures is_the_depth { result.number ≡ depth levels.number row column }
 {
-    let mut level = 0;
-    while is_deeper(levels, level, row, column) {
-        level += 1;
+    for number in 0..levels.number {
+        if !is_on(Level { number: number + 1 }, row, column) {
+            return Level { number };
+        }
     }
-    Level { number: level }
+    levels // the cell is on every lattice
 }

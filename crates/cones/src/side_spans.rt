@@ -6,6 +6,7 @@ ghost use Rattle.cones.specs.Spans.{spans_of};
 
 use crate::span::{is_member, is_within, span_at};
 use planes::level::Level;
+use std::array;
 use wavelets::Span;
 
 // The rows of a rectangle on a side of so many rows, or its columns: the span at level 0, and those at the levels 0 to 5.
@@ -22,14 +23,7 @@ impl SideSpans {
         ensures is_of_the_side { result.side ≡ side }
         ensures is_of_the_span { result.span ≡ span }
     {
-        let spans = [
-            span_at(side, span, 0),
-            span_at(side, span, 1),
-            span_at(side, span, 2),
-            span_at(side, span, 3),
-            span_at(side, span, 4),
-            span_at(side, span, 5),
-        ];
+        let spans = array::from_fn(|level| span_at(side, span, level));
         SideSpans { side, span, spans }
     }
 

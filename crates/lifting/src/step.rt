@@ -21,13 +21,7 @@ pub trait Step {
 pub fn to_cell(number: i64) -> i32
     ensures is_clamped { result ≡ to_cell number }
 {
-    if number < -2147483648 {
-        -2147483648
-    } else if number <= 2147483647 {
-        number as i32
-    } else {
-        2147483647
-    }
+    number.clamp(-2147483648, 2147483647) as i32
 }
 
 // A number lowered and raised by an amount.

@@ -1,13 +1,15 @@
-use Rattle.std.proofs.Common.{arith}
-use Rattle.cones.proofs.Depths.{on_none, deeper, depth_is}
+use Rattle.std.proofs.Common.{◌≡◌, sym, ◌∙◌, arith}
+use Rattle.cones.proofs.Depths.{on_none, depth_is}
 use Rattle.cones.proofs.depth.depth_of.Goals as goal
 
-pub loop-levels-init : goal.loop-levels-init
-loop-levels-init c = (on_none c.args.row c.args.column, omega arith)
+pub loop-number-init : goal.loop-number-init
+loop-number-init c = on_none c.args.row c.args.column
 
-pub loop-levels-preserved : goal.loop-levels-preserved
-loop-levels-preserved c = deeper c.args.levels.number c.loop-levels.level c.args.row c.args.column c.loop-levels-test.ensures.is_on_the_next_lattice
+pub returns-then-not-is_on : goal.returns-then-not-is_on
+returns-then-not-is_on c =
+    record { is_the_depth = depth_is c.args.levels.number c.loop-number.number c.args.row c.args.column (omega arith) c.loop-number.invariant (λ g. sym c.is_on.ensures.is_on_the_lattice ∙ c.if-not-is_on.true) }
 
 pub returns : goal.returns
 returns c =
-    record { is_the_depth = depth_is c.args.levels.number c.loop-levels.level c.args.row c.args.column c.loop-levels.invariant.0 c.loop-levels.invariant.1 c.loop-levels-test.ensures.is_on_the_next_lattice }
+    let e : c.loop-number.number ≡ c.args.levels.number = omega arith in
+    record { is_the_depth = depth_is c.args.levels.number c.args.levels.number c.args.row c.args.column (omega arith) (rw e at c.loop-number.invariant) (λ g. absurd (omega arith)) }
