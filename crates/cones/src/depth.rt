@@ -1,5 +1,5 @@
 // The depth of a cell.
-ghost use Rattle.std.specs.Prelude.{◌≡◌, ◌+◌, ◌&&◌, nat_lt};
+ghost use Rattle.std.specs.Prelude.{◌≡◌};
 ghost use Rattle.wavelets.specs.Lifting.{on};
 ghost use Rattle.wavelets.specs.Cone.{depth};
 

@@ -1,7 +1,7 @@
 // The sources: another plane, samples for a rectangle, and the cells of a cone in another plane.
-ghost use Rattle.std.specs.Prelude.{◌≡◌, true, ◌&&◌, length};
+ghost use Rattle.std.specs.Prelude.{◌≡◌, ◌+◌, ◌*◌, true, ◌&&◌, length, nat_lt};
 ghost use Rattle.cones.specs.Cones.{cone_cells};
-ghost use Rattle.overlays.specs.Overlays.{inside};
+ghost use Rattle.overlays.specs.Overlays.{inside, Offers};
 ghost use Rattle.overlays.specs.Samples.{covers, sample_index, has_sample, patch, samples_at};
 
 use crate::overlay::Source;
@@ -42,14 +42,32 @@ fn is_covered(rectangle: Rectangle, row: usize, column: usize) -> bool
         && column - rectangle.first_column < rectangle.width
 }
 
+// Which of the numbers of so many columns, row by row, is that of a place; every such index has a place in 128 bits.
+pub fn index_of(columns: usize, row: usize, column: usize) -> u128
+    ensures is_the_index { result ≡ row * columns + column }
+{
+    row as u128 * columns as u128 + column as u128
+}
+
+// The sample of an index, if there is one.
+pub fn sample_at(samples: &[u16], index: u128) -> Option<i32>
+    ensures is_the_sample_if_there_is_one { Offers (nat_lt index (length samples.now)) (samples_at samples.now index) result }
+{
+    if index < samples.len() as u128 {
+        Some(i32::from(samples[index as usize]))
+    } else {
+        None
+    }
+}
+
 // Which of a rectangle's numbers, row by row, is that of a place.
 fn sample_index(rectangle: Rectangle, row: usize, column: usize) -> u128
     requires inside { covers rectangle row column ≡ true }
     ensures is_the_index { result ≡ sample_index rectangle row column }
 {
-    let i = (row - rectangle.first_row) as u128;
-    let j = (column - rectangle.first_column) as u128;
-    i * rectangle.width as u128 + j
+    let i = row - rectangle.first_row;
+    let j = column - rectangle.first_column;
+    index_of(rectangle.width, i, j)
 }
 
 impl<'a> Source for Patch<'a> {
@@ -61,12 +79,7 @@ impl<'a> Source for Patch<'a> {
         if !is_covered(self.rectangle, row, column) {
             return None;
         }
-        let index = sample_index(self.rectangle, row, column);
-        if index < self.samples.len() as u128 {
-            Some(self.samples[index as usize] as i32)
-        } else {
-            None
-        }
+        sample_at(self.samples, sample_index(self.rectangle, row, column))
     }
 }
 

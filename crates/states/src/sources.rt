@@ -1,17 +1,11 @@
 // Sources that have a number for every place: samples row by row, and the numbers of a plane.
-ghost use Rattle.std.specs.Prelude.{◌≡◌, ◌+◌, ◌*◌};
+ghost use Rattle.std.specs.Prelude.{◌≡◌};
 ghost use Rattle.overlays.specs.Samples.{samples_at, pictured};
 ghost use Rattle.states.specs.States.{everywhere, padded};
 
 use overlays::overlay::Source;
+use overlays::sources::{index_of, sample_at};
 use planes::plane::Plane;
-
-// Which of the numbers, row by row, is that of a place.
-fn index_of(columns: usize, row: usize, column: usize) -> u128
-    ensures is_the_index { result ≡ row * columns + column }
-{
-    row as u128 * columns as u128 + column as u128
-}
 
 // Samples, row by row; 0 where there are no more.
 #[derive(Drop)]
@@ -27,11 +21,7 @@ impl<'a> Source for Listed<'a> {
 
     fn offer(&self, row: usize, column: usize) -> Option<i32> {
         let index = index_of(self.columns, row, column);
-        if index < self.samples.len() as u128 {
-            Some(self.samples[index as usize] as i32)
-        } else {
-            Some(0)
-        }
+        Some(sample_at(self.samples, index).unwrap_or(0))
     }
 }
 
@@ -47,9 +37,6 @@ impl<'a, P: Plane> Source for Padded<'a, P> {
     ghost value = { λ s. padded (P.Plane.picture s.plane.now) };
 
     fn offer(&self, row: usize, column: usize) -> Option<i32> {
-        match self.plane.read(row, column) {
-            Ok(number) => Some(number),
-            Err(_) => Some(0),
-        }
+        Some(self.plane.read(row, column).unwrap_or(0))
     }
 }
