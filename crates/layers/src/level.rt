@@ -1,5 +1,5 @@
 // The level layer: the lattice of a level of any store, which is a store itself.
-ghost use Rattle.std.specs.Prelude.{◌≡◌, ℕ, ◌*◌, ◌^◌, Bool, true, false, MatchResult};
+ghost use Rattle.std.specs.Prelude.{◌≡◌, ◌*◌, ◌^◌, true, false, MatchResult};
 ghost use Rattle.faults.specs.declared.fault.Fault.TheVariants as faults;
 ghost use Rattle.planes.specs.Planes.{Within, PutsNumber, PutsBit, unmarked};
 ghost use Rattle.layers.specs.Layers.{sampled, lattice, LayerFrame, layer_still, layer_onward, SetsLevel};

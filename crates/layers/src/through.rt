@@ -1,5 +1,5 @@
 // Putting through a level layer and taking the store back: over any store, and in a buffer of records.
-ghost use Rattle.std.specs.Prelude.{◌≡◌, ℕ, ◌*◌, ◌^◌, Bool, true, false, length};
+ghost use Rattle.std.specs.Prelude.{◌≡◌, ◌*◌, ◌^◌, false, length};
 ghost use Rattle.std.specs.Result.{result_err};
 ghost use Rattle.planes.specs.Flat.{flat_fault, made_side};
 ghost use Rattle.layers.specs.Through.{PutInside, MarkedInside, PutsRecord};

@@ -1,5 +1,5 @@
 // The four steps of lifting, as types: a sweep is compiled for each.
-ghost use Rattle.std.specs.Prelude.{◌≡◌, ℕ, ◌≤◌, ◌+ℤ◌, ◌-ℤ◌, unsigned_abs};
+ghost use Rattle.std.specs.Prelude.{◌≡◌, ◌≤◌, ◌+ℤ◌, ◌-ℤ◌, unsigned_abs};
 ghost use Rattle.lifting.specs.Passes.{to_cell, StepRule, predicting, updating, undoing_update, undoing_predict};
 
 use kernels::kernel::Kernel;

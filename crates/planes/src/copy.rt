@@ -1,5 +1,5 @@
 // Copying a rectangle of any plane out, row by row.
-ghost use Rattle.std.specs.Prelude.{◌≡◌, ℕ, ◌+◌, ◌*◌, ◌<◌, length};
+ghost use Rattle.std.specs.Prelude.{◌≡◌, ◌+◌, ◌*◌, ◌<◌, length};
 ghost use Rattle.std.specs.Result.{result_err};
 ghost use Rattle.planes.specs.Copies.{copy_fault, Ready, Copied, Copies};
 

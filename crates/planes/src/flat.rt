@@ -1,7 +1,7 @@
 // The flat store: a rectangle of cell records, row by row, in a caller's buffer.
-ghost use Rattle.std.specs.Prelude.{◌≡◌, ℕ, ◌≤◌, Bool, true, false, cond, length, MatchResult, refl};
-ghost use Rattle.std.proofs.Common.{◌∙◌};
+ghost use Rattle.std.specs.Prelude.{◌≡◌, ◌≤◌, length, MatchResult, refl};
 ghost use Rattle.faults.specs.declared.fault.Fault.TheVariants as Fault;
+ghost use Rattle.std.proofs.Common.{◌∙◌};
 ghost use Rattle.planes.specs.Planes.{Within};
 ghost use Rattle.planes.specs.Flat.{flat_picture, flat_numbers, flat_bits, flat_fault, made_side, Clears, FlatFrame, flat_still, flat_onward};
 

@@ -1,5 +1,5 @@
 // The row-by-row rectangle at the front of a caller's buffer, for every element.
-ghost use Rattle.std.specs.Prelude.{◌≡◌, ℕ, ◌+◌, ◌*◌, ◌<◌, length, MatchOption, nat_le, slice_index_or, slice_set};
+ghost use Rattle.std.specs.Prelude.{◌≡◌, ◌+◌, ◌*◌, ◌<◌, length, MatchOption, nat_le, slice_index_or, slice_set};
 ghost use Rattle.planes.specs.Rowwise.{Inside, usable};
 
 // `rows` times `columns` elements, row by row; no rows and no columns where the buffer is shorter.

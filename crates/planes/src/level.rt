@@ -1,5 +1,5 @@
 // The levels, and the sides of their lattices.
-ghost use Rattle.std.specs.Prelude.{◌≡◌, ℕ, ◌^◌, ◌<◌, ◌≤◌, MatchOption};
+ghost use Rattle.std.specs.Prelude.{◌≡◌, ◌^◌, ◌<◌, ◌≤◌, MatchOption};
 ghost use Rattle.planes.specs.Lattices.{lattice_side};
 
 // A level from 0 to 5: the lattice of level k has every 2^k-th row and column.

@@ -1,5 +1,5 @@
 // Places counted on a lattice and places of the plate, which are two types.
-ghost use Rattle.std.specs.Prelude.{◌≡◌, ℕ, ◌*◌, ◌^◌, ◌<◌, MatchOption};
+ghost use Rattle.std.specs.Prelude.{◌≡◌, ◌*◌, ◌^◌, ◌<◌, MatchOption};
 ghost use Rattle.planes.specs.Places.{OnPlate};
 
 use crate::level::Level;

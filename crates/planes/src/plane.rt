@@ -1,5 +1,5 @@
 // What a plane is, and what a store adds to it.
-ghost use Rattle.std.specs.Prelude.{◌≡◌, ℕ, Bool, true, false, ◌||◌};
+ghost use Rattle.std.specs.Prelude.{◌≡◌, Bool, true, false, ◌||◌};
 ghost use Rattle.planes.specs.Planes.{Cells, Picture, Answers, PutsNumber, PutsBit, unmarked};
 
 use faults::fault::Fault;

@@ -1,38 +1,62 @@
 -- One call of a list, by the call's own promise.
-use Rattle.std.proofs.Common.{◌≡◌, ℕ, ◌*◌, ◌≤◌, true, false, List, length, get_or, ℤ, pos, is_ok, Ok, Err, vec_items, Option, Result, Vec, sym, refl, ◌∙◌, subst}
+use Rattle.std.proofs.Common.{◌≡◌, ℕ, ◌*◌, ◌≤◌, true, false, List, length, get_or, ℤ, pos, is_ok, Ok, Err, vec_items, Option, Result, Vec, sym, refl, ap, ◌∙◌, subst}
 use Rattle.std.specs.declared.alloc.Global.{Global}
 use Rattle.std.specs.declared.option.Option.TheVariants as option
 use Rattle.faults.specs.declared.fault.Fault.{Fault}
 use Rattle.planes.specs.declared.cell.Cell.{Cell}
 use Rattle.planes.specs.declared.places.LatticePlace.{LatticePlace}
-use Rattle.planes.specs.declared.places.PlatePlace.{PlatePlace}
 use Rattle.planes.specs.declared.rectangle.Rectangle.{Rectangle}
 use Rattle.model.specs.declared.card.Card.{Card}
 use Rattle.model.specs.Calls as plain
 use Rattle.model.specs.Plain.{Setting, Plain, why}
 use Rattle.plates.specs.declared.calls.Call.{Call}
-use Rattle.plates.specs.declared.calls.Call.TheVariants.{Lease, Settle, Recall, Preview, Read}
+use Rattle.plates.specs.declared.calls.Call.TheVariants.{Lay, Lease, Settle, Surrender, Recall, Preview, Read, Clear}
 use Rattle.plates.specs.declared.calls.Answer.{Answer}
-use Rattle.plates.specs.Shows.{View, Shows, Follows, own_fault, fault_in, lattice_rectangle, preview_differences}
-use Rattle.plates.specs.Runs.{said, meant, BuffersLeft, Stepped}
+use Rattle.plates.specs.Shows.{View, Shows, Follows, own_fault, fault_in, answered, lattice_rectangle, preview_differences}
+use Rattle.std.specs.Result.{MatchResult, IsOkAnd}
+use Rattle.plates.specs.Runs.{said, reply_of, meant, BuffersLeft, Stepped}
 use Rattle.plates.proofs.Showing.{own_table}
 
-pub stepped : (c k d : Call) (a : Answer) (r : plain.Reply) (v w : View) → c ≡ k → meant a ≡ option.Some r → Follows (said k) v w r
+pub stepped : (c k d : Call) (a : Option (Result Answer Fault)) (r : plain.Reply) (v w : View) → c ≡ k → meant a ≡ option.Some r → Follows (said k) v w r
     → ((s : Setting) (p : Plain) → Shows s p v → BuffersLeft (preview_differences s p) (why s p (said k)) k d) → Stepped c d a v w
 stepped c k d a r v w e m f b =
     subst (λ z. Stepped z d a v w) (sym e) (record { reply_of_the_call = r; answer_is = m; follows = f; buffers = b })
 
-pub lease_left : (s : Setting) (p : Plain) (o : Option Fault) (first : PlatePlace) (i j : ℕ) → BuffersLeft (preview_differences s p) o (Lease first i j) (Lease first i j)
-lease_left s p option.None first i j = refl
-lease_left s p (option.Some f) first i j = refl
+-- an answer made of a call's result, by what is made of each value
+pub mapped : {X : Type 0} (r : Result X Fault) (a : Result Answer Fault) (f : X → plain.Reply) (made : X → Answer → Type 0)
+    → ((x : X) (y : Answer) → made x y → reply_of y ≡ f x)
+    → MatchResult r (λ x. IsOkAnd a (made x)) (λ e. a ≡ Err e)
+    → meant (option.Some a) ≡ option.Some (answered f r)
+mapped (Ok x) (Ok y) f made h m = ap option.Some (h x y m)
+mapped (Ok x) (Err e) f made h m = absurd m
+mapped (Err e) a f made h m = rw m
 
-pub recall_left : (s : Setting) (p : Plain) (o : Option Fault) (d : Call) → d ≡ Recall → BuffersLeft (preview_differences s p) o Recall d
-recall_left s p option.None d e = e
-recall_left s p (option.Some f) d e = e
+-- a call without scratch and output is left as it was
+abbrev pub Unlent : Call → Type 0
+Unlent (Settle plate serial xs scratch) = ⊥
+Unlent (Preview card first i j scratch out) = ⊥
+Unlent k = Unit {0}
 
-pub read_left : (s : Setting) (p : Plain) (o : Option Fault) (card : Card) (at : LatticePlace) → BuffersLeft (preview_differences s p) o (Read card at) (Read card at)
-read_left s p option.None card at = refl
-read_left s p (option.Some f) card at = refl
+same : (s : Setting) (p : Plain) (o : Option Fault) (k : Call) → Unlent k → BuffersLeft (preview_differences s p) o k k
+same s p option.None (Lay q xs) u = refl
+same s p option.None (Lease first i j) u = refl
+same s p option.None (Surrender plate serial) u = refl
+same s p option.None Recall u = refl
+same s p option.None (Read card at) u = refl
+same s p option.None Clear u = refl
+same s p option.None (Settle plate serial xs scratch) u = absurd u
+same s p option.None (Preview card first i j scratch out) u = absurd u
+same s p (option.Some f) (Lay q xs) u = refl
+same s p (option.Some f) (Lease first i j) u = refl
+same s p (option.Some f) (Surrender plate serial) u = refl
+same s p (option.Some f) Recall u = refl
+same s p (option.Some f) (Read card at) u = refl
+same s p (option.Some f) Clear u = refl
+same s p (option.Some f) (Settle plate serial xs scratch) u = absurd u
+same s p (option.Some f) (Preview card first i j scratch out) u = absurd u
+
+pub kept : (s : Setting) (p : Plain) (o : Option Fault) (k d : Call) → d ≡ k → Unlent k → BuffersLeft (preview_differences s p) o k d
+kept s p o k d e u = subst (λ z. BuffersLeft (preview_differences s p) o k z) (sym e) (same s p o k u)
 
 -- what a verdict says of the buffers
 pub by_verdict : (s : Setting) (p : Plain) (v : View) (k d : Call) (o : Option Fault) → Shows s p v → o ≡ own_fault v (said k) → BuffersLeft (preview_differences s p) o k d → BuffersLeft (preview_differences s p) (why s p (said k)) k d

@@ -1,5 +1,5 @@
 -- What a list of calls comes to on a plate: the states it goes through, and what is counted after each call.
-use Rattle.std.specs.Prelude.{◌≡◌, ℕ, ◌*◌, ◌≤◌, not, List, [], ◌∷◌, length, ℤ, pos, vec_items, Option, Vec, slice_index_or}
+use Rattle.std.specs.Prelude.{◌≡◌, ℕ, ◌*◌, ◌≤◌, not, List, [], ◌∷◌, length, ℤ, pos, vec_items, Ok, Err, Option, Result, Vec, slice_index_or}
 use Rattle.std.specs.declared.alloc.Global.{Global}
 use Rattle.std.specs.declared.option.Option.TheVariants as option
 use Rattle.faults.specs.declared.fault.Fault.{Fault}
@@ -16,7 +16,7 @@ use Rattle.model.specs.Laws.{after_history, verdicts, deeds, last_plan, edited_p
 use Rattle.plates.specs.declared.calls.Call.{Call}
 use Rattle.plates.specs.declared.calls.Call.TheVariants.{Lay, Lease, Settle, Surrender, Recall, Preview, Read, Clear}
 use Rattle.plates.specs.declared.calls.Answer.{Answer}
-use Rattle.plates.specs.declared.calls.Answer.TheVariants.{Pending, Declined, Done, Leased, Settled, Recalled, CellRead}
+use Rattle.plates.specs.declared.calls.Answer.TheVariants.{Done, Leased, Settled, Recalled, CellRead}
 use Rattle.plates.specs.declared.calls.Turn.{Turn}
 use Rattle.planes.specs.declared.plane.Plane as plane
 use Rattle.planes.specs.declared.plane.Store as store
@@ -34,15 +34,19 @@ said (Preview card first h w scratch out) = plain.previewing card (lattice_recta
 said (Read card at) = plain.reading card at.row at.column
 said Clear = plain.clearing
 
--- An answer's value as a reply; none while it is pending.
-abbrev pub meant : Answer → Option plain.Reply
-meant Pending = option.None
-meant (Declined f) = option.Some (plain.declined f)
-meant Done = option.Some plain.done
-meant (Leased plate serial) = option.Some (plain.leased plate serial)
-meant (Settled n) = option.Some (plain.settled n)
-meant (Recalled o) = option.Some (plain.recalled o)
-meant (CellRead x b) = option.Some (plain.cell x b)
+-- The value of an accepted call's answer, as a reply.
+abbrev pub reply_of : Answer → plain.Reply
+reply_of Done = plain.done
+reply_of (Leased plate serial) = plain.leased plate serial
+reply_of (Settled n) = plain.settled n
+reply_of (Recalled o) = plain.recalled o
+reply_of (CellRead c) = plain.cell c.number c.bit
+
+-- The value of what stands beside a call, as a reply; none while the call waits.
+abbrev pub meant : Option (Result Answer Fault) → Option plain.Reply
+meant option.None = option.None
+meant (option.Some (Ok a)) = option.Some (reply_of a)
+meant (option.Some (Err f)) = option.Some (plain.declined f)
 
 -- How many of the first numbers of an output differ from a resolution of the edited picture after a history.
 abbrev pub output_differences : Setting → List plain.Call → Card → Rectangle → List ℤ → ℕ
@@ -123,7 +127,7 @@ Ran s h v (t ∷ ts) (u ∷ us) w = (m : View) × Turned s h t u v m × Ran s (s
 
 -- One call with the buffers c, from the state v to w, which left the buffers d and answered a: it follows its own promise, and whatever plain
 -- plate v shows, its buffers are left as that plain plate says.
-pub record Stepped (c d : Call) (a : Answer) (v w : View) : Type 0 where
+pub record Stepped (c d : Call) (a : Option (Result Answer Fault)) (v w : View) : Type 0 where
   pub reply_of_the_call : plain.Reply
   pub answer_is : meant a ≡ option.Some reply_of_the_call
   pub follows : Follows (said c) v w reply_of_the_call

@@ -3,6 +3,7 @@ use Rattle.std.specs.Prelude.{◌≡◌, ℕ, ◌*◌, ◌^◌, ◌<◌, ◌≤�
 use Rattle.faults.specs.declared.fault.Fault.{Fault}
 use Rattle.planes.specs.declared.plane.Plane as plane
 use Rattle.planes.specs.declared.plane.Store as store
+use Rattle.planes.specs.declared.cell.Cell.{Cell}
 use Rattle.planes.specs.declared.places.LatticePlace.{LatticePlace}
 use Rattle.planes.specs.declared.places.PlatePlace.{PlatePlace}
 use Rattle.planes.specs.Copies.{nth_number}
@@ -96,8 +97,8 @@ abbrev pub rectangle_at : PlatePlace → ℕ → ℕ → Rectangle
 rectangle_at first h w = record { first_row = first.row; first_column = first.column; height = h; width = w }
 
 -- A cell's number and bit as a reply.
-abbrev pub cell_as : (ℤ × Bool) → Reply
-cell_as x = cell x.0 x.1
+abbrev pub cell_as : Cell → Reply
+cell_as x = cell x.number x.bit
 
 -- The number x and the bit b are those of the cell that lies under a place of a level, where that is a cell of the store.
 abbrev pub CellBelow : {S : Type 0} → plane.Ghosts S → store.Ghosts S → S → ℕ → ℕ → ℕ → ℤ → Bool → Type 0

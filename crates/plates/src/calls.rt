@@ -1,4 +1,6 @@
 // The calls of a list, each with room for its answer.
+ghost use Rattle.std.specs.Prelude.{◌≡◌, None};
+
 use faults::fault::Fault;
 use model::card::Card;
 use model::plan::Plan;
@@ -43,22 +45,32 @@ pub enum Call {
     Clear,
 }
 
-// What a call answered.
+// What an accepted call answered.
 #[derive(Clone, Copy, PartialEq, Eq, Debug)]
 pub enum Answer {
-    // Not asked yet.
-    Pending,
-    Declined(Fault),
     Done,
+    // The number of the plate, and the serial.
     Leased(u32, u32),
+    // How many cells were put.
     Settled(usize),
+    // The serial of the lease that was out.
     Recalled(Option<u32>),
-    CellRead(i32, bool),
+    CellRead(Cell),
 }
 
-// A call and its answer.
+// A call and its answer; none as long as the call waits.
 #[derive(Drop)]
 pub struct Turn {
     pub call: Call,
-    pub answer: Answer,
+    pub answer: Option<Result<Answer, Fault>>,
+}
+
+impl Turn {
+    // A call that waits.
+    pub fn waiting(call: Call) -> Turn
+        ensures has_the_call { result.call ≡ call }
+        ensures has_no_answer { result.answer ≡ None }
+    {
+        Turn { call, answer: None }
+    }
 }

@@ -1,11 +1,11 @@
-// The checks of laying, settling and previewing: each answers the first row of its table that holds, and changes nothing.
-ghost use Rattle.std.specs.Prelude.{◌≡◌, ℕ, ◌*◌, ◌^◌, ◌<◌, ◌≤◌, true, length, Some, None};
+// The checks of laying, settling and previewing: each declines by the first row of its table that holds, and changes nothing.
+ghost use Rattle.std.specs.Prelude.{◌≡◌, ◌*◌, ◌^◌, ◌<◌, ◌≤◌, true, is_ok, IfOk, Some, None};
 ghost use Rattle.wavelets.specs.Lifting.{within_budget};
 ghost use Rattle.model.specs.Calls.{samples_of, laying, settling, previewing};
 ghost use Rattle.faults.specs.Tables.{first_fault};
 ghost use Rattle.model.specs.Plain.{first_over, samples_table};
 ghost use Rattle.plates.specs.Plans.{lawful_plan};
-ghost use Rattle.plates.specs.Shows.{seen, own_fault};
+ghost use Rattle.plates.specs.Shows.{seen, own_fault, fault_in};
 
 use crate::plate::level_in_hand;
 use crate::state::Plate;
@@ -14,29 +14,21 @@ use kernels::kernel::Kernel;
 use model::card::Card;
 use model::plan::Plan;
 use planes::grid::is_covered;
+use planes::level::Level;
 use planes::plane::{Plane, Store};
 use planes::rectangle::Rectangle;
 
 // 9 to the power of the levels.
-fn growth(levels: usize) -> usize
-    requires { levels ≤ 5 }
-    ensures is_the_power_of_nine { result ≡ 9 ^ levels }
+fn growth(levels: Level) -> usize
+    ensures is_the_power_of_nine { result ≡ 9 ^ levels.number }
     ensures is_small { result ≤ 59049 }
 {
-    match levels {
-        0 => 1,
-        1 => 9,
-        2 => 81,
-        3 => 729,
-        4 => 6561,
-        _ => 59049,
-    }
+    9usize.pow(levels.number as u32)
 }
 
-fn is_within_budget(top: usize, levels: usize) -> bool
-    requires levels { levels ≤ 5 }
-    requires top { top ≤ 65535 }
-    ensures tells_the_budget { result ≡ within_budget top levels }
+fn is_within_budget(top: usize, levels: Level) -> bool
+    requires { top ≤ 65535 }
+    ensures tells_the_budget { result ≡ within_budget top levels.number }
 {
     top * growth(levels) <= 2147483647
 }
@@ -54,95 +46,92 @@ fn first_sample_over(samples: &[u16], top: usize) -> usize
 }
 
 impl<S: Store, K: Kernel> Plate<S, K> {
-    pub(crate) fn laying_fault(&self, plan: Plan, samples: &[u16]) -> Option<Fault>
-        ensures is_the_first_row_that_holds { result ≡ own_fault (seen S.Plane S.Store.own K.Kernel self.now) (laying plan (samples_of samples.now)) }
-        ensures passes_a_lawful_plan { result ≡ None → lawful_plan plan ≡ true }
-        ensures passes_no_lease { result ≡ None → self.now.lease ≡ None }
-        ensures passes_five_levels_at_most { result ≡ None → plan.levels ≤ 5 }
+    // Answers the levels of the plan.
+    pub(crate) fn check_laying(&self, plan: Plan, samples: &[u16]) -> Result<Level, Fault>
+        ensures declines_by_the_first_row_that_holds { fault_in result ≡ own_fault (seen S.Plane S.Store.own K.Kernel self.now) (laying plan (samples_of samples.now)) }
+        ensures passes_a_lawful_plan { is_ok result ≡ true → lawful_plan plan ≡ true }
+        ensures passes_no_lease { is_ok result ≡ true → self.now.lease ≡ None }
+        ensures answers_the_levels { IfOk result (λ levels. levels.number ≡ plan.levels) }
     {
         if self.lease.is_some() {
-            return Some(Fault::LeaseOut);
+            return Err(Fault::LeaseOut);
         }
         if plan.rows == 0 || plan.rows > 4096 || plan.columns == 0 || plan.columns > 4096 {
-            return Some(Fault::Size(Layer::Plate));
+            return Err(Fault::Size(Layer::Plate));
         }
-        if plan.levels > 5 {
-            return Some(Fault::Levels(Layer::Plate));
-        }
+        let levels = Level::new(plan.levels).ok_or(Fault::Levels(Layer::Plate))?;
         if plan.top == 0 || plan.top > 65535 {
-            return Some(Fault::Top(Layer::Plate));
+            return Err(Fault::Top(Layer::Plate));
         }
-        if !is_within_budget(plan.top, plan.levels) {
-            return Some(Fault::Budget);
+        if !is_within_budget(plan.top, levels) {
+            return Err(Fault::Budget);
         }
         if self.store.rows() != plan.rows || self.store.columns() != plan.columns {
-            return Some(Fault::StoreDiffers);
+            return Err(Fault::StoreDiffers);
         }
-        samples_fault(samples, plan.rows * plan.columns, plan.top)
+        check_samples(samples, plan.rows * plan.columns, plan.top)?;
+        Ok(levels)
     }
 
-    pub(crate) fn settling_fault(
+    // Answers the plan and the rectangle that is leased.
+    pub(crate) fn check_settling(
         &self,
         plate: u32,
         serial: u32,
         samples: &[u16],
         records: usize,
-    ) -> Option<Fault>
-        ensures is_the_first_row_that_holds { result ≡ own_fault (seen S.Plane S.Store.own K.Kernel self.now) (settling plate serial (samples_of samples.now) records) }
+    ) -> Result<(Plan, Rectangle), Fault>
+        ensures declines_by_the_first_row_that_holds { fault_in result ≡ own_fault (seen S.Plane S.Store.own K.Kernel self.now) (settling plate serial (samples_of samples.now) records) }
+        ensures answers_the_plan_and_the_rectangle { IfOk result (λ x. (self.now.plan ≡ Some x.0) × (self.now.lease ≡ Some x.1)) }
     {
-        let (Some(plan), Some(rectangle)) = (self.plan, self.lease) else {
-            return Some(Fault::WrongLease);
-        };
+        let plan = self.plan.ok_or(Fault::WrongLease)?;
+        let rectangle = self.lease.ok_or(Fault::WrongLease)?;
         if plate != self.number || serial != self.serial {
-            return Some(Fault::WrongLease);
+            return Err(Fault::WrongLease);
         }
-        if let Some(fault) = samples_fault(samples, rectangle.height * rectangle.width, plan.top) {
-            return Some(fault);
-        }
+        check_samples(samples, rectangle.height * rectangle.width, plan.top)?;
         if records < plan.rows * plan.columns {
-            return Some(Fault::ScratchShort);
+            return Err(Fault::ScratchShort);
         }
-        None
+        Ok((plan, rectangle))
     }
 
-    pub(crate) fn preview_fault(
+    // Answers the plan and the level in hand.
+    pub(crate) fn check_preview(
         &self,
         card: &Card,
         rectangle: Rectangle,
         records: usize,
         room: usize,
-    ) -> Option<Fault>
-        ensures is_the_first_row_that_holds { result ≡ own_fault (seen S.Plane S.Store.own K.Kernel self.now) (previewing card.now rectangle records room) }
+    ) -> Result<(Plan, Level), Fault>
+        ensures declines_by_the_first_row_that_holds { fault_in result ≡ own_fault (seen S.Plane S.Store.own K.Kernel self.now) (previewing card.now rectangle records room) }
+        ensures answers_the_plan_and_the_level { IfOk result (λ x. (self.now.plan ≡ Some x.0) × (x.1.number ≡ card.now.level)) }
     {
-        let Some(plan) = self.plan else {
-            return Some(Fault::Unlaid);
-        };
-        let Some(level) = level_in_hand(card, plan) else {
-            return Some(Fault::LevelInHand);
-        };
+        let plan = self.plan.ok_or(Fault::Unlaid)?;
+        let level = level_in_hand(card, plan).ok_or(Fault::LevelInHand)?;
         if rectangle.leaves(level.side(plan.rows), level.side(plan.columns)) {
-            return Some(Fault::Rectangle(Layer::Plate));
+            return Err(Fault::Rectangle(Layer::Plate));
         }
         if !is_covered(rectangle.height, rectangle.width, room) {
-            return Some(Fault::OutputShort(Layer::Plate));
+            return Err(Fault::OutputShort(Layer::Plate));
         }
         if records < plan.rows * plan.columns {
-            return Some(Fault::ScratchShort);
+            return Err(Fault::ScratchShort);
         }
-        None
+        Ok((plan, level))
     }
 }
 
-// Why samples are declined: their count differs from the area, or one exceeds the top.
-fn samples_fault(samples: &[u16], area: usize, top: usize) -> Option<Fault>
-    ensures is_the_first_row_that_holds { result ≡ first_fault (samples_table (samples_of samples.now) area top) }
+// Declines samples whose count differs from the area, or of which one exceeds the top.
+fn check_samples(samples: &[u16], area: usize, top: usize) -> Result<(), Fault>
+    ensures declines_by_the_first_row_that_holds { fault_in result ≡ first_fault (samples_table (samples_of samples.now) area top) }
 {
     if samples.len() != area {
-        return Some(Fault::SampleCount);
+        return Err(Fault::SampleCount);
     }
     let index = first_sample_over(samples, top);
     if index < samples.len() {
-        return Some(Fault::Sample(Layer::Plate, index));
+        return Err(Fault::Sample(Layer::Plate, index));
     }
-    None
+    Ok(())
 }

@@ -1,5 +1,5 @@
 // Laying a picture.
-ghost use Rattle.std.specs.Prelude.{◌≡◌, true, false, is_ok};
+ghost use Rattle.std.specs.Prelude.{◌≡◌, false, is_ok};
 ghost use Rattle.model.specs.Calls.{samples_of, laying, done};
 ghost use Rattle.plates.specs.Shows.{seen, own_fault, Follows, fault_in, answered};
 
@@ -7,8 +7,8 @@ use crate::state::Plate;
 use faults::fault::Fault;
 use kernels::kernel::Kernel;
 use model::plan::Plan;
-use planes::level::Level;
 use planes::plane::{Plane, Store};
+use works::transform::Transform;
 
 impl<S: Store, K: Kernel> Plate<S, K> {
     // Lays a picture of samples, row by row: writes every cell and leaves every bit set. It may come again.
@@ -18,17 +18,12 @@ impl<S: Store, K: Kernel> Plate<S, K> {
         ensures follows_the_plain_plate { Follows (laying plan (samples_of samples.now)) (seen S.Plane S.Store.own K.Kernel self.old) (seen S.Plane S.Store.own K.Kernel self.new) (answered (λ _. done) result) }
         ensures keeps_the_kernel { self.new.kernel ≡ self.old.kernel }
     {
-        if let Some(fault) = self.laying_fault(plan, samples) {
-            return Err(fault);
-        }
-        let _ = works::lay::lay(
-            &mut self.store,
-            &self.kernel,
-            Level {
-                number: plan.levels,
-            },
-            samples,
-        );
+        let levels = self.check_laying(plan, samples)?;
+        let transform = Transform {
+            kernel: &self.kernel,
+            levels,
+        };
+        let _ = transform.lay(&mut self.store, samples);
         self.plan = Some(plan);
         Ok(())
     }

@@ -1,8 +1,8 @@
-// The calls of a plate. Each is a check, which answers the first row of the call's table that holds and changes nothing, and then an effect,
+// The calls of a plate. Each is a check, which declines by the first row of the call's table that holds and changes nothing, and then an effect,
 // which cannot decline.
-ghost use Rattle.std.specs.Prelude.{◌≡◌, ℕ, ◌*◌, ◌^◌, ◌<◌, ◌≤◌, true, false, ◌⊎◌, is_ok, Some, None, MatchOption};
+ghost use Rattle.std.specs.Prelude.{◌≡◌, ◌*◌, ◌^◌, ◌<◌, ◌≤◌, true, false, ◌⊎◌, is_ok, IfOk, Some, None, MatchOption};
 ghost use Rattle.model.specs.Calls.{leasing, surrendering, recalling, reading, clearing, done, recalled};
-ghost use Rattle.model.specs.Plain.{Setting, Plain, fresh};
+ghost use Rattle.model.specs.Plain.{fresh};
 ghost use Rattle.plates.specs.Shows.{seen, setting_of, own_fault, Shows, Follows, fault_in, answered, leased_as, cell_as, rectangle_at, CellBelow};
 ghost use Rattle.plates.specs.Plans.{lawful_state};
 ghost use Rattle.plates.specs.Runs.{just_made};
@@ -13,6 +13,7 @@ use faults::fault::{Fault, Layer};
 use kernels::kernel::Kernel;
 use model::card::Card;
 use model::plan::Plan;
+use planes::cell::Cell;
 use planes::level::Level;
 use planes::places::{LatticePlace, PlatePlace};
 use planes::plane::{Plane, Store};
@@ -60,23 +61,18 @@ impl<S: Store, K: Kernel> Plate<S, K> {
         ensures follows_the_plain_plate { Follows recalling (seen S.Plane S.Store.own K.Kernel self.old) (seen S.Plane S.Store.own K.Kernel self.new) (recalled result) }
         ensures keeps_the_kernel { self.new.kernel ≡ self.old.kernel }
     {
-        match self.lease {
-            Some(_) => {
-                self.lease = None;
-                Some(self.serial)
-            }
-            None => None,
-        }
+        self.lease.take()?;
+        Some(self.serial)
     }
 
-    // Whether the lease of these two numbers is the one that is out.
-    fn surrender_fault(&self, plate: u32, serial: u32) -> Option<Fault>
-        ensures is_the_first_row_that_holds { result ≡ own_fault (seen S.Plane S.Store.own K.Kernel self.now) (surrendering plate serial) }
+    // Declines where the lease of these two numbers is not the one that is out.
+    fn check_surrender(&self, plate: u32, serial: u32) -> Result<(), Fault>
+        ensures declines_by_the_first_row_that_holds { fault_in result ≡ own_fault (seen S.Plane S.Store.own K.Kernel self.now) (surrendering plate serial) }
     {
         if self.lease.is_none() || plate != self.number || serial != self.serial {
-            return Some(Fault::WrongLease);
+            return Err(Fault::WrongLease);
         }
-        None
+        Ok(())
     }
 
     // Ends the lease, unsettled.
@@ -87,32 +83,27 @@ impl<S: Store, K: Kernel> Plate<S, K> {
         ensures keeps_the_kernel { self.new.kernel ≡ self.old.kernel }
     {
         let (plate, serial) = lease.spent();
-        if let Some(fault) = self.surrender_fault(plate, serial) {
-            return Err(fault);
-        }
+        self.check_surrender(plate, serial)?;
         self.lease = None;
         Ok(())
     }
 
-    // Why a leasing is declined, if it is.
-    fn leasing_fault(&self, rectangle: Rectangle) -> Option<Fault>
-        ensures is_the_first_row_that_holds { result ≡ own_fault (seen S.Plane S.Store.own K.Kernel self.now) (leasing rectangle) }
-        ensures passes_a_lawful_lease { result ≡ None → lawful_state self.now.plan (Some rectangle) ≡ true }
-        ensures passes_a_serial_to_give { result ≡ None → self.now.serial < 65535 }
+    fn check_leasing(&self, rectangle: Rectangle) -> Result<(), Fault>
+        ensures declines_by_the_first_row_that_holds { fault_in result ≡ own_fault (seen S.Plane S.Store.own K.Kernel self.now) (leasing rectangle) }
+        ensures passes_a_lawful_lease { is_ok result ≡ true → lawful_state self.now.plan (Some rectangle) ≡ true }
+        ensures passes_a_serial_to_give { is_ok result ≡ true → self.now.serial < 65535 }
     {
-        let Some(plan) = self.plan else {
-            return Some(Fault::Unlaid);
-        };
+        let plan = self.plan.ok_or(Fault::Unlaid)?;
         if rectangle.leaves(plan.rows, plan.columns) {
-            return Some(Fault::Rectangle(Layer::Plate));
+            return Err(Fault::Rectangle(Layer::Plate));
         }
         if self.lease.is_some() {
-            return Some(Fault::LeaseOut);
+            return Err(Fault::LeaseOut);
         }
         if self.serial >= 65535 {
-            return Some(Fault::SerialsSpent);
+            return Err(Fault::SerialsSpent);
         }
-        None
+        Ok(())
     }
 
     // Leases a rectangle of the plate under the next serial.
@@ -128,22 +119,17 @@ impl<S: Store, K: Kernel> Plate<S, K> {
             height,
             width,
         };
-        if let Some(fault) = self.leasing_fault(rectangle) {
-            return Err(fault);
-        }
+        self.check_leasing(rectangle)?;
         self.serial += 1;
         self.lease = Some(rectangle);
         Ok(Lease::given(self.number, self.serial))
     }
 
-    fn clearing_fault(&self) -> Option<Fault>
-        ensures is_the_first_row_that_holds { result ≡ own_fault (seen S.Plane S.Store.own K.Kernel self.now) clearing }
+    fn check_clearing(&self) -> Result<(), Fault>
+        ensures declines_by_the_first_row_that_holds { fault_in result ≡ own_fault (seen S.Plane S.Store.own K.Kernel self.now) clearing }
     {
-        if self.plan.is_none() {
-            Some(Fault::Unlaid)
-        } else {
-            None
-        }
+        self.plan.ok_or(Fault::Unlaid)?;
+        Ok(())
     }
 
     // Unsets all change bits.
@@ -153,38 +139,31 @@ impl<S: Store, K: Kernel> Plate<S, K> {
         ensures follows_the_plain_plate { Follows clearing (seen S.Plane S.Store.own K.Kernel self.old) (seen S.Plane S.Store.own K.Kernel self.new) (answered (λ _. done) result) }
         ensures keeps_the_kernel { self.new.kernel ≡ self.old.kernel }
     {
-        if let Some(fault) = self.clearing_fault() {
-            return Err(fault);
-        }
+        self.check_clearing()?;
         self.store.clear();
         Ok(())
     }
 
-    // Why a reading is declined, if it is.
-    fn reading_fault(&self, card: &Card, at: LatticePlace) -> Option<Fault>
-        ensures is_the_first_row_that_holds { result ≡ own_fault (seen S.Plane S.Store.own K.Kernel self.now) (reading card.now at.row at.column) }
+    // Answers the level in hand.
+    fn check_reading(&self, card: &Card, at: LatticePlace) -> Result<Level, Fault>
+        ensures declines_by_the_first_row_that_holds { fault_in result ≡ own_fault (seen S.Plane S.Store.own K.Kernel self.now) (reading card.now at.row at.column) }
+        ensures answers_the_level { IfOk result (λ level. level.number ≡ card.now.level) }
     {
-        let Some(plan) = self.plan else {
-            return Some(Fault::Unlaid);
-        };
-        let Some(level) = level_in_hand(card, plan) else {
-            return Some(Fault::LevelInHand);
-        };
+        let plan = self.plan.ok_or(Fault::Unlaid)?;
+        let level = level_in_hand(card, plan).ok_or(Fault::LevelInHand)?;
         if at.row >= level.side(plan.rows) || at.column >= level.side(plan.columns) {
-            return Some(Fault::Outside);
+            return Err(Fault::Outside);
         }
-        None
+        Ok(level)
     }
 
     // The number and the bit of the cell at a place of the level in hand.
-    pub fn read(&self, card: &Card, at: LatticePlace) -> Result<(i32, bool), Fault>
+    pub fn read(&self, card: &Card, at: LatticePlace) -> Result<Cell, Fault>
         ensures declines_by_its_own_table { fault_in result ≡ own_fault (seen S.Plane S.Store.own K.Kernel self.now) (reading card.now at.row at.column) }
         ensures follows_the_plain_plate { Follows (reading card.now at.row at.column) (seen S.Plane S.Store.own K.Kernel self.now) (seen S.Plane S.Store.own K.Kernel self.now) (answered cell_as result) }
     {
-        if let Some(fault) = self.reading_fault(card, at) {
-            return Err(fault);
-        }
-        Ok(cell_at(&self.store, card.level, at))
+        let level = self.check_reading(card, at)?;
+        Ok(cell_at(&self.store, level, at))
     }
 }
 
@@ -198,27 +177,26 @@ pub(crate) fn level_in_hand(card: &Card, plan: Plan) -> Option<Level>
     Level::new(card.level)
 }
 
-// The number and the bit of a cell; 0 and unset outside, and off any level.
-fn cell_at<S: Store>(store: &S, level: usize, at: LatticePlace) -> (i32, bool)
-    ensures is_the_cell_below { CellBelow S.Plane S.Store.own store.now level at.row at.column result.0 result.1 }
+// The number and the bit of a cell; 0 and unset outside.
+fn cell_at<S: Store>(store: &S, level: Level, at: LatticePlace) -> Cell
+    ensures is_the_cell_below { CellBelow S.Plane S.Store.own store.now level.number at.row at.column result.number result.bit }
 {
     let rows = store.rows();
     let columns = store.columns();
     match on_store(rows, columns, level, at) {
-        Some(place) => (
-            store.read(place.row, place.column).unwrap_or(0),
-            store.bit(place.row, place.column).unwrap_or(false),
-        ),
-        None => (0, false),
+        Some(place) => Cell {
+            number: store.read(place.row, place.column).unwrap_or(0),
+            bit: store.bit(place.row, place.column).unwrap_or(false),
+        },
+        None => Cell::BLANK,
     }
 }
 
 // The place of a plate of some rows and columns under a place of a level, if there is one.
-fn on_store(rows: usize, columns: usize, level: usize, at: LatticePlace) -> Option<PlatePlace>
+fn on_store(rows: usize, columns: usize, level: Level, at: LatticePlace) -> Option<PlatePlace>
     ensures is_the_place_below { MatchOption result
-        (level ≤ 5 → at.row * 2 ^ level < rows → at.column * 2 ^ level < columns → ⊥)
-        (λ p. (p.row ≡ at.row * 2 ^ level) × (p.column ≡ at.column * 2 ^ level)) }
+        (at.row * 2 ^ level.number < rows → at.column * 2 ^ level.number < columns → ⊥)
+        (λ p. (p.row ≡ at.row * 2 ^ level.number) × (p.column ≡ at.column * 2 ^ level.number)) }
 {
-    let level = Level::new(level)?;
     at.on_plate(level)
 }

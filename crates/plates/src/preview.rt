@@ -13,6 +13,7 @@ use planes::cell::Cell;
 use planes::places::LatticePlace;
 use planes::plane::{Plane, Store};
 use planes::rectangle::Rectangle;
+use works::transform::Transform;
 
 impl<S: Store, K: Kernel> Plate<S, K> {
     // Writes a rectangle of the picture's resolution, row by row, into the front of the output.
@@ -38,21 +39,12 @@ impl<S: Store, K: Kernel> Plate<S, K> {
             height,
             width,
         };
-        if let Some(fault) = self.preview_fault(card, rectangle, scratch.len(), output.len()) {
-            return Err(fault);
-        }
-        let Some(plan) = self.plan else {
-            return Err(Fault::Unlaid);
+        let (plan, level) = self.check_preview(card, rectangle, scratch.len(), output.len())?;
+        let transform = Transform {
+            kernel: &self.kernel,
+            levels: level_of(plan.levels),
         };
-        let _ = works::preview::preview(
-            &self.store,
-            &self.kernel,
-            level_of(plan.levels),
-            level_of(card.level),
-            rectangle,
-            scratch,
-            output,
-        );
+        let _ = transform.preview(&self.store, level, rectangle, scratch, output);
         Ok(())
     }
 }

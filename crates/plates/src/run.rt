@@ -1,9 +1,7 @@
 // A whole list of calls on a plate just made.
-ghost use Rattle.std.specs.Prelude.{◌≡◌, []};
-ghost use Rattle.model.specs.Calls as plain;
-ghost use Rattle.plates.specs.Shows.{seen, setting_of, answered, cell_as};
-ghost use Rattle.plates.specs.Runs.{meant, just_made, Stepped, Steps, Ran};
-ghost use Rattle.std.specs.declared.option.Option.TheVariants as option;
+ghost use Rattle.std.specs.Prelude.{◌≡◌, [], Some};
+ghost use Rattle.plates.specs.Shows.{seen, setting_of};
+ghost use Rattle.plates.specs.Runs.{just_made, Stepped, Steps, Ran};
 
 use crate::calls::{Answer, Call, Turn};
 use crate::lease::Lease;
@@ -12,52 +10,26 @@ use faults::fault::Fault;
 use kernels::kernel::Kernel;
 use planes::plane::Store;
 
-// The answer of a call that says no more than that it was done.
-fn done_or_declined(res: Result<(), Fault>) -> Answer
-    ensures means_the_same { meant result ≡ option.Some (answered (λ _. plain.done) res) }
+// The numbers of a lease that was given.
+fn leased(lease: Lease) -> Answer
+    ensures are_the_leases_numbers { result ≡ Answer.Leased lease.plate lease.serial }
 {
-    match res {
-        Ok(_) => Answer::Done,
-        Err(fault) => Answer::Declined(fault),
-    }
-}
-
-fn settled_or_declined(res: Result<usize, Fault>) -> Answer
-    ensures means_the_same { meant result ≡ option.Some (answered plain.settled res) }
-{
-    match res {
-        Ok(count) => Answer::Settled(count),
-        Err(fault) => Answer::Declined(fault),
-    }
-}
-
-fn cell_or_declined(res: Result<(i32, bool), Fault>) -> Answer
-    ensures means_the_same { meant result ≡ option.Some (answered cell_as res) }
-{
-    match res {
-        Ok((number, bit)) => Answer::CellRead(number, bit),
-        Err(fault) => Answer::Declined(fault),
-    }
+    let (plate, serial) = lease.spent();
+    Answer::Leased(plate, serial)
 }
 
 // One call of a list.
-fn step<S: Store, K: Kernel>(plate: &mut Plate<S, K>, call: &mut Call) -> Answer
-    ensures does_the_call { Stepped call.old call.new result (seen S.Plane S.Store.own K.Kernel plate.old) (seen S.Plane S.Store.own K.Kernel plate.new) }
+fn step<S: Store, K: Kernel>(plate: &mut Plate<S, K>, call: &mut Call) -> Result<Answer, Fault>
+    ensures does_the_call { Stepped call.old call.new (Some result) (seen S.Plane S.Store.own K.Kernel plate.old) (seen S.Plane S.Store.own K.Kernel plate.new) }
     ensures keeps_the_kernel { plate.new.kernel ≡ plate.old.kernel }
 {
     match call {
-        Call::Lay { plan, samples } => done_or_declined(plate.lay(*plan, samples)),
+        Call::Lay { plan, samples } => plate.lay(*plan, samples).map(|_| Answer::Done),
         Call::Lease {
             first,
             height,
             width,
-        } => match plate.lease(*first, *height, *width) {
-            Ok(lease) => {
-                let (plate, serial) = lease.spent();
-                Answer::Leased(plate, serial)
-            }
-            Err(fault) => Answer::Declined(fault),
-        },
+        } => plate.lease(*first, *height, *width).map(leased),
         Call::Settle {
             plate: number,
             serial,
@@ -65,13 +37,15 @@ fn step<S: Store, K: Kernel>(plate: &mut Plate<S, K>, call: &mut Call) -> Answer
             scratch,
         } => {
             let lease = Lease::given(*number, *serial);
-            settled_or_declined(plate.settle(lease, samples, scratch))
+            plate.settle(lease, samples, scratch).map(Answer::Settled)
         }
         Call::Surrender {
             plate: number,
             serial,
-        } => done_or_declined(plate.surrender(Lease::given(*number, *serial))),
-        Call::Recall => Answer::Recalled(plate.recall()),
+        } => plate
+            .surrender(Lease::given(*number, *serial))
+            .map(|_| Answer::Done),
+        Call::Recall => Ok(Answer::Recalled(plate.recall())),
         Call::Preview {
             card,
             first,
@@ -79,9 +53,11 @@ fn step<S: Store, K: Kernel>(plate: &mut Plate<S, K>, call: &mut Call) -> Answer
             width,
             scratch,
             output,
-        } => done_or_declined(plate.preview(card, *first, *height, *width, scratch, output)),
-        Call::Read { card, at } => cell_or_declined(plate.read(card, *at)),
-        Call::Clear => done_or_declined(plate.clear()),
+        } => plate
+            .preview(card, *first, *height, *width, scratch, output)
+            .map(|_| Answer::Done),
+        Call::Read { card, at } => plate.read(card, *at).map(Answer::CellRead),
+        Call::Clear => plate.clear().map(|_| Answer::Done),
     }
 }
 
@@ -90,7 +66,7 @@ fn turn_over<S: Store, K: Kernel>(plate: &mut Plate<S, K>, turn: &mut Turn)
     ensures does_the_call { Stepped turn.old.call turn.new.call turn.new.answer (seen S.Plane S.Store.own K.Kernel plate.old) (seen S.Plane S.Store.own K.Kernel plate.new) }
     ensures keeps_the_kernel { plate.new.kernel ≡ plate.old.kernel }
 {
-    turn.answer = step(plate, &mut turn.call);
+    turn.answer = Some(step(plate, &mut turn.call));
 }
 
 // The calls of a list, one after the other.
@@ -98,8 +74,8 @@ fn play<S: Store, K: Kernel>(plate: &mut Plate<S, K>, turns: &mut [Turn])
     ensures does_each_call { Steps (seen S.Plane S.Store.own K.Kernel plate.old) turns.old turns.new (seen S.Plane S.Store.own K.Kernel plate.new) }
     ensures keeps_the_kernel { plate.new.kernel ≡ plate.old.kernel }
 {
-    for i in 0..turns.len() {
-        turn_over(plate, &mut turns[i]);
+    for turn in turns {
+        turn_over(plate, turn);
     }
 }
 

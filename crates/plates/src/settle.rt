@@ -1,5 +1,5 @@
 // Settling the lease that is out.
-ghost use Rattle.std.specs.Prelude.{◌≡◌, ◌≤◌, true, false, length, is_ok};
+ghost use Rattle.std.specs.Prelude.{◌≡◌, ◌≤◌, false, length, is_ok};
 ghost use Rattle.model.specs.Calls.{samples_of, settling, settled};
 ghost use Rattle.model.specs.Plain.{ends_the_lease};
 ghost use Rattle.plates.specs.Shows.{seen, own_fault, Follows, fault_in, answered};
@@ -11,23 +11,23 @@ use kernels::kernel::Kernel;
 use planes::cell::Cell;
 use planes::level::Level;
 use planes::plane::{Plane, Store};
+use works::transform::Transform;
 
 // The level of a plan's levels; 0 where there are more than five, which no plan of a plate has.
 pub(crate) fn level_of(levels: usize) -> Level
     ensures is_the_level { levels ≤ 5 → result.number ≡ levels }
 {
-    match Level::new(levels) {
-        Some(level) => level,
-        None => Level { number: 0 },
-    }
+    Level::new(levels).unwrap_or(Level { number: 0 })
 }
 
 // Whether a fault of a settlement ends the lease all the same.
 fn is_end_of_lease(fault: Fault) -> bool
     ensures tells_whether_the_lease_ends { result ≡ ends_the_lease fault }
 {
-    let number = fault.number();
-    7 <= number && number <= 9
+    matches!(
+        fault,
+        Fault::SampleCount | Fault::Sample(_, _) | Fault::ScratchShort
+    )
 }
 
 impl<S: Store, K: Kernel> Plate<S, K> {
@@ -45,24 +45,21 @@ impl<S: Store, K: Kernel> Plate<S, K> {
         ensures keeps_the_kernel { self.new.kernel ≡ self.old.kernel }
     {
         let (plate, serial) = lease.spent();
-        if let Some(fault) = self.settling_fault(plate, serial, samples, scratch.len()) {
-            if is_end_of_lease(fault) {
-                self.lease = None;
+        let (plan, rectangle) = match self.check_settling(plate, serial, samples, scratch.len()) {
+            Ok(leased) => leased,
+            Err(fault) => {
+                if is_end_of_lease(fault) {
+                    self.lease = None;
+                }
+                return Err(fault);
             }
-            return Err(fault);
-        }
-        let (Some(plan), Some(rectangle)) = (self.plan, self.lease) else {
-            return Err(Fault::WrongLease);
         };
         self.lease = None;
-        let count = works::settle::settle(
-            &mut self.store,
-            &self.kernel,
-            level_of(plan.levels),
-            rectangle,
-            samples,
-            scratch,
-        );
+        let transform = Transform {
+            kernel: &self.kernel,
+            levels: level_of(plan.levels),
+        };
+        let count = transform.settle(&mut self.store, rectangle, samples, scratch);
         Ok(count.unwrap_or(0))
     }
 }

@@ -40,9 +40,7 @@ impl<S: Store, K: Kernel> Plate<S, K> {
         ensures writes_the_sheet_of_the_plain_plate { (s : Setting) (p : Plain) → Shows s p (seen S.Plane S.Store.own K.Kernel self.now)
             → Sheeted p.plan (plain_sheet issue (K.Kernel.code self.now.kernel) s p) out.old out.new result }
     {
-        let Some(plan) = self.plan else {
-            return Err(Fault::Unlaid);
-        };
+        let plan = self.plan.ok_or(Fault::Unlaid)?;
         let head = head_of(issue, self.kernel.code(), plan);
         write_sheet(&self.store, head, out).ok_or(Fault::OutputShort(Layer::Plate))
     }

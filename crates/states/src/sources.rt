@@ -1,5 +1,4 @@
 // Sources that have a number for every place: samples row by row, and the numbers of a plane.
-ghost use Rattle.std.specs.Prelude.{◌≡◌};
 ghost use Rattle.overlays.specs.Samples.{samples_at, pictured};
 ghost use Rattle.states.specs.States.{everywhere, padded};
 

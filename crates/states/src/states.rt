@@ -1,6 +1,6 @@
 // A plane at work, over a store by value: a flat store, or one that is lent. What its numbers are is in its type, and its store is
 // private: no store becomes such a plane but by having every number written.
-ghost use Rattle.std.specs.Prelude.{◌≡◌, ℕ, min, Bool, false, length};
+ghost use Rattle.std.specs.Prelude.{◌≡◌, min, false, length};
 ghost use Rattle.overlays.specs.Overlays.{overlaid_picture, overlaid_bits};
 ghost use Rattle.overlays.specs.Samples.{samples_at, pictured};
 ghost use Rattle.overlays.specs.Samples.{has_sample, patch};

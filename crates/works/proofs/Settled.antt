@@ -17,11 +17,11 @@ use Rattle.wavelets.proofs.Locality.{cone_anew}
 use Rattle.lifting.specs.Passes.{Budgeted, ShowsTheTransform, ShowsTheRoundsBelow}
 use Rattle.cones.specs.Rectangles.{rows_of, columns_of}
 use Rattle.cones.proofs.Counting.{count_cells_alike, count_cells_at_most}
-use Rattle.overlays.specs.Overlays.{inside, overlaid, overlaid_picture}
+use Rattle.overlays.specs.Overlays.{inside, overlaid, overlaid_picture, overlaid_bits}
 use Rattle.overlays.specs.Samples.{covers, sample_index, has_sample, patch, replaced}
-use Rattle.overlays.proofs.Laying.{Alike, sides, overlaid_in, overlaid_not, overlaid_number}
+use Rattle.overlays.proofs.Laying.{Alike, laid_alike, sides, overlaid_in, overlaid_not, overlaid_number}
 use Rattle.states.specs.States.{everywhere, padded}
-use Rattle.works.specs.Works.{SameSides, Settles, settles_there, cone_of}
+use Rattle.works.specs.Works.{SameSides, Settles, Settled, settles_there, cone_of}
 
 -- copying: the copy shows what was copied
 pub copied : (f p q : Picture) → SameSides f p → q ≡ overlaid_picture everywhere (padded f) p
@@ -86,7 +86,7 @@ reworks K L n a xs f p q o m w fits room s e t undo d u lift =
     )
 
 -- putting the cone: what is outside stays, and is that of the edited transform all the same
-pub settles : (K : Amounts) (L : ℕ) (a : Rectangle) (xs : ℕ → ℤ) (f w e : Picture)
+settles : (K : Amounts) (L : ℕ) (a : Rectangle) (xs : ℕ → ℤ) (f w e : Picture)
     → Settles K L a xs f w → e ≡ overlaid_picture (cone_of f a L) w.number f → Settles K L a xs f e
 settles K L a xs f w e reworked d x P budget small h r c lr lc =
     overlaid_number _ _ f e d r c ∙ at (cone_of f a L r c) refl
@@ -102,11 +102,29 @@ settles K L a xs f w e reworked d x P budget small h r c lr lc =
         ∙ cone_anew K f.height f.width L (rows_of a) (columns_of a) x y f.number h (λ i j _ _ o. sym (cond-false _ (patch a xs i j) (x i j) o)) r c lr lc
 
 -- inside a plane of the same sides the test of the plane says nothing
-pub only_the_cone : (f p : Picture) (k : Cells Bool) → SameSides p f → Alike p.height p.width (λ r c. inside f.height f.width r c && k r c) k
+only_the_cone : (f p : Picture) (k : Cells Bool) → SameSides p f → Alike p.height p.width (λ r c. inside f.height f.width r c && k r c) k
 only_the_cone f p k s r c lr lc = rw (s.0, s.1, lt-ltb r p.height lr, lt-ltb c p.width lc)
 
-pub cone_counted : (p : Picture) (t k : Cells Bool) (n : ℕ) → Alike p.height p.width t k → n ≡ count_cells p.height p.width t → n ≡ count_cells p.height p.width k
+cone_counted : (p : Picture) (t k : Cells Bool) (n : ℕ) → Alike p.height p.width t k → n ≡ count_cells p.height p.width t → n ≡ count_cells p.height p.width k
 cone_counted p t k n h e = e ∙ count_cells_alike p.height p.width t k h
+
+-- the cone's cells put from w, and counted: the settlement is made
+pub settled : (K : Amounts) (L : ℕ) (a : Rectangle) (xs : ℕ → ℤ) (p w : Picture) (b : Cells Bool) (q : Picture) (d : Cells Bool) (n : ℕ) (k : Cells Bool)
+    → k ≡ cone_of p a L → SameSides p w → Settles K L a xs p w
+    → q ≡ overlaid_picture (λ r c. inside w.height w.width r c && k r c) w.number p
+    → d ≡ overlaid_bits p (λ r c. inside w.height w.width r c && k r c) b
+    → n ≡ count_cells p.height p.width (λ r c. inside w.height w.width r c && k r c)
+    → Settled K L a xs p b q d n
+settled K L a xs p w b q d n k e s reworked put marks counted =
+    let t : Cells Bool = (λ r c. inside w.height w.width r c && k r c) in
+    let alike : Alike p.height p.width t (cone_of p a L) = rw (← e) (only_the_cone w p k s) in
+    let laid = laid_alike t w.number p b (cone_of p a L) q d alike (record { picture = put; bits = marks }) in
+    record {
+      sides = sides (cone_of p a L) w.number p q laid.picture;
+      cells = settles K L a xs p w q reworked laid.picture;
+      bits = laid.bits;
+      count = cone_counted p t (cone_of p a L) n alike counted;
+    }
 
 -- what a settlement that can be made is known by
 pub none_means : (x y : Bool) (f g : Fault) → is_some (cond x (Some f) (cond y (Some g) None)) ≡ false → (x ≡ false) × (y ≡ false)

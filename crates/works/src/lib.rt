@@ -4,3 +4,4 @@
 pub mod lay;
 pub mod preview;
 pub mod settle;
+pub mod transform;

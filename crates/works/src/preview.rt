@@ -1,10 +1,10 @@
 // Previewing: a rectangle of a resolution of the picture is copied out.
-ghost use Rattle.std.specs.Prelude.{◌≡◌, ◌≤◌, true, false, length, is_some, MatchOption};
+ghost use Rattle.std.specs.Prelude.{◌≡◌, ◌≤◌, true, false, length, MatchOption};
 ghost use Rattle.planes.specs.Copies.{copy_fault, Copies};
-ghost use Rattle.wavelets.specs.Lifting.{size};
 ghost use Rattle.layers.specs.Layers.{lattice};
 ghost use Rattle.works.specs.Works.{SameSides, Uncovers, Previewed, previews_there};
 
+use crate::transform::Transform;
 use faults::fault::Fault;
 use kernels::kernel::Kernel;
 use layers::level::LevelLayer;
@@ -15,24 +15,6 @@ use planes::level::Level;
 use planes::plane::{Plane, Store};
 use planes::rectangle::Rectangle;
 use states::states::Cells;
-
-// Works out, in another store, the rounds below a level: the cells of a plane are copied and undone so far.
-fn uncovered<A: Plane, W: Store, K: Kernel>(
-    from: &A,
-    work: W,
-    kernel: &K,
-    levels: Level,
-    level: Level,
-) -> W
-    requires same_sides { SameSides (A.Plane.picture from.now) (W.Plane.picture work) }
-    requires among_the_levels { level.number ≤ levels.number }
-    ensures has_the_same_sides { SameSides (A.Plane.picture from.now) (W.Plane.picture result) }
-    ensures shows_the_rounds_below { Uncovers (K.Kernel.amounts kernel.now) levels.number level.number (A.Plane.picture from.now) (W.Plane.picture result) }
-{
-    Cells::copy(work, from, levels)
-        .undo(kernel, level)
-        .into_store()
-}
 
 // Copies a rectangle of a level's lattice out.
 fn copy_level<W: Plane + Drop>(
@@ -48,25 +30,6 @@ fn copy_level<W: Plane + Drop>(
         level,
     };
     copy_out(&layer, rectangle, output)
-}
-
-// Previews with another store of the same sides to work in.
-fn preview_in<A: Plane, W: Store + Drop, K: Kernel>(
-    from: &A,
-    work: W,
-    kernel: &K,
-    levels: Level,
-    level: Level,
-    rectangle: Rectangle,
-    output: &mut [i32],
-)
-    requires same_sides { SameSides (A.Plane.picture from.now) (W.Plane.picture work) }
-    requires among_the_levels { level.number ≤ levels.number }
-    requires can_be_copied_out { is_some (copy_fault (size level.number (A.Plane.picture from.now).height) (size level.number (A.Plane.picture from.now).width) rectangle (length output.old)) ≡ false }
-    ensures previews { Previewed (K.Kernel.amounts kernel.now) levels.number level.number rectangle (A.Plane.picture from.now) output.old output.new }
-{
-    let work = uncovered(from, work, kernel, levels, level);
-    let _ = copy_level(work, level, rectangle, output);
 }
 
 // Whether a preview can be made: the level is among the levels, the rectangle lies on its lattice, the output has room for it, and
@@ -87,38 +50,52 @@ pub fn can_preview(
         && FlatStore::fault(scratch, rows, columns).is_none()
 }
 
-// Previews: the rectangle of the picture's resolution at a level is written into the front of the output, row by row. Where a preview
-// cannot be made, it answers none and changes nothing. The scratch is left open.
-pub fn preview<S: Plane, K: Kernel>(
-    store: &S,
-    kernel: &K,
-    levels: Level,
-    level: Level,
-    rectangle: Rectangle,
-    scratch: &mut [Cell],
-    output: &mut [i32],
-) -> Option<()>
-    ensures previews_or_changes_nothing { MatchOption result
-        ((previews_there (S.Plane.picture store.now).height (S.Plane.picture store.now).width levels.number level.number rectangle (length output.old) (length scratch.old) ≡ false)
-        × (output.new ≡ output.old)
-        × (scratch.new ≡ scratch.old))
-        (λ _. (previews_there (S.Plane.picture store.now).height (S.Plane.picture store.now).width levels.number level.number rectangle (length output.old) (length scratch.old) ≡ true)
-        × Previewed (K.Kernel.amounts kernel.now) levels.number level.number rectangle (S.Plane.picture store.now) output.old output.new) }
-{
-    let rows = store.rows();
-    let columns = store.columns();
-    if !can_preview(
-        rows,
-        columns,
-        levels,
-        level,
-        rectangle,
-        output.len(),
-        scratch,
-    ) {
-        return None;
+impl<'k, K: Kernel> Transform<'k, K> {
+    // Works out, in another store, the rounds below a level: the cells of a plane are copied and undone so far.
+    fn uncovered<A: Plane, W: Store>(&self, from: &A, work: W, level: Level) -> W
+        requires same_sides { SameSides (A.Plane.picture from.now) (W.Plane.picture work) }
+        requires among_the_levels { level.number ≤ self.now.levels.number }
+        ensures has_the_same_sides { SameSides (A.Plane.picture from.now) (W.Plane.picture result) }
+        ensures shows_the_rounds_below { Uncovers (K.Kernel.amounts self.now.kernel.now) self.now.levels.number level.number (A.Plane.picture from.now) (W.Plane.picture result) }
+    {
+        Cells::copy(work, from, self.levels)
+            .undo(self.kernel, level)
+            .into_store()
     }
-    let work = FlatStore::new(scratch, rows, columns);
-    preview_in(store, work, kernel, levels, level, rectangle, output);
-    Some(())
+
+    // Previews: the rectangle of the picture's resolution at a level is written into the front of the output, row by row. Where a preview
+    // cannot be made, it answers none and changes nothing. The scratch is left open.
+    pub fn preview<S: Plane>(
+        &self,
+        store: &S,
+        level: Level,
+        rectangle: Rectangle,
+        scratch: &mut [Cell],
+        output: &mut [i32],
+    ) -> Option<()>
+        ensures previews_or_changes_nothing { MatchOption result
+            ((previews_there (S.Plane.picture store.now).height (S.Plane.picture store.now).width self.now.levels.number level.number rectangle (length output.old) (length scratch.old) ≡ false)
+            × (output.new ≡ output.old)
+            × (scratch.new ≡ scratch.old))
+            (λ _. (previews_there (S.Plane.picture store.now).height (S.Plane.picture store.now).width self.now.levels.number level.number rectangle (length output.old) (length scratch.old) ≡ true)
+            × Previewed (K.Kernel.amounts self.now.kernel.now) self.now.levels.number level.number rectangle (S.Plane.picture store.now) output.old output.new) }
+    {
+        let rows = store.rows();
+        let columns = store.columns();
+        if !can_preview(
+            rows,
+            columns,
+            self.levels,
+            level,
+            rectangle,
+            output.len(),
+            scratch,
+        ) {
+            return None;
+        }
+        let work = FlatStore::new(scratch, rows, columns);
+        let work = self.uncovered(store, work, level);
+        copy_level(work, level, rectangle, output).unwrap();
+        Some(())
+    }
 }

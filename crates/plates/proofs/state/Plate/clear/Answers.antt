@@ -10,6 +10,6 @@ returns g c = record {
   declined_leaves_the_store = search rules;
   keeps_the_kernel = search rules;
   follows_the_plain_plate = λ s p h.
-      accepted s p clearing _ done (sym (own_table s p _ h clearing) ∙ (let e = c.in_default.ensures.is_the_first_row_that_holds in search rules))
+      accepted s p clearing _ done (sym (own_table s p _ h clearing) ∙ (let e = c.in_ok-check_clearing.ensures.declines_by_the_first_row_that_holds in search rules))
       (cleared_shows s p _ _ _ h (search rules) (search rules)) refl;
 }

@@ -9,7 +9,7 @@ use Rattle.plates.proofs.state.Plate.preview.Goals as goal
 
 pub returns : goal.returns
 returns g c =
-    let o = sym c.in_default.ensures.is_the_first_row_that_holds in
+    let o = sym c.in_ok-plan.ensures.declines_by_the_first_row_that_holds in
     let v = seen g.S.Plane g.S.Store g.K.Kernel c.args.self.now in
     let a = lattice_rectangle c.args.first c.args.height c.args.width in
     let call = previewing c.args.card.now a (length c.args.scratch.now) (length c.args.output.now) in
@@ -17,9 +17,9 @@ returns g c =
       declines_by_its_own_table = sym o;
       declined_leaves_the_scratch = λ e. absurd (false≢true (sym e));
       declined_leaves_the_output = λ e. absurd (false≢true (sym e));
-      leaves_the_rest_of_the_output = rest_stays v a c.level_of.result.number c.level_of-2.result.number (length c.args.scratch.now) c.args.output.now c.preview.new.output _ c.preview.result c.preview.ensures.previews_or_changes_nothing;
+      leaves_the_rest_of_the_output = rest_stays v a c.level_of.result.number c.in_ok-plan.level.number (length c.args.scratch.now) c.args.output.now c.preview.new.output _ c.preview.result c.preview.ensures.previews_or_changes_nothing;
       follows_the_plain_plate = λ s p h. accepted s p call v done (sym (own_table s p v h call) ∙ o) h refl;
       shows_the_resolution = λ s p h e.
-          draws s p v c.in-Some-plan.plan c.args.card.now a (length c.args.scratch.now) c.args.output.now c.preview.new.output h c.in-Some-plan.is c.args.self.now.lawful o
-          c.level_of.result.number c.level_of-2.result.number c.level_of.ensures.is_the_level c.level_of-2.ensures.is_the_level _ c.preview.result c.preview.ensures.previews_or_changes_nothing;
+          draws s p v c.in_ok-plan.plan c.args.card.now a (length c.args.scratch.now) c.args.output.now c.preview.new.output h c.in_ok-plan.ensures.answers_the_plan_and_the_level.0 c.args.self.now.lawful o
+          c.level_of.result.number c.in_ok-plan.level.number c.level_of.ensures.is_the_level (λ _. c.in_ok-plan.ensures.answers_the_plan_and_the_level.1) _ c.preview.result c.preview.ensures.previews_or_changes_nothing;
     }

@@ -14,15 +14,15 @@ returns g c =
     let o : own_fault v (settling c.args.lease.plate c.args.lease.serial xs n) ≡ None =
     ap (λ z. own_fault v (settling z c.args.lease.serial xs n)) (sym c.spent-plate.ensures.answers_the_plates_number)
     ∙ ap (λ z. own_fault v (settling c.spent-plate.result.0 z xs n)) (sym c.spent-plate.ensures.answers_the_serial)
-    ∙ sym c.in_default.ensures.is_the_first_row_that_holds in
+    ∙ sym c.in-Ok.ensures.declines_by_the_first_row_that_holds in
     record {
       declines_by_its_own_table = sym o;
       declined_leaves_the_store = λ e. absurd (false≢true (sym e));
       declined_leaves_the_scratch = λ e. absurd (false≢true (sym e));
       keeps_the_kernel = refl;
       follows_the_plain_plate = λ s p h.
-          let r = settles s p v c.in-Some-Some.plan c.in-Some-Some.rectangle c.args.lease.plate c.args.lease.serial c.args.samples.now (length c.args.scratch.now) h
-          c.in-Some-Some.is-0 c.in-Some-Some.is-1 c.args.self.now.lawful o c.level_of.result.number c.level_of.ensures.is_the_level
+          let r = settles s p v c.in-Ok.leased.0 c.in-Ok.leased.1 c.args.lease.plate c.args.lease.serial c.args.samples.now (length c.args.scratch.now) h
+          c.in-Ok.ensures.answers_the_plan_and_the_rectangle.0 c.in-Ok.ensures.answers_the_plan_and_the_rectangle.1 c.args.self.now.lawful o c.level_of.result.number c.level_of.ensures.is_the_level
           (g.S.Plane.picture c.settle-count.new.store) (g.S.Store.bits c.settle-count.new.store) _ c.settle-count.result c.settle-count.ensures.settles_or_changes_nothing in
           (r.0, ap settled (search rules) ∙ r.1);
     }

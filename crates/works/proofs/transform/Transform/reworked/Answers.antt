@@ -5,7 +5,7 @@ use Rattle.overlays.specs.Samples.{samples_at}
 use Rattle.works.specs.Works.{SameSides, Settles}
 use Rattle.works.proofs.Laid.{worked_sides}
 use Rattle.works.proofs.Settled.{reworks}
-use Rattle.works.proofs.settle.reworked.Goals as goal
+use Rattle.works.proofs.transform.Transform.reworked.Goals as goal
 
 pub returns : goal.returns
 returns g c =
@@ -15,7 +15,7 @@ returns g c =
     let m = P c.replace.result.store in let w = P c.lift.result.store in
     let copied = c.copy.ensures in let undone = c.restore-before.ensures in let patched = c.replace.ensures in let lifted = c.lift.ensures in
     let back = sym c.into_store.ensures.is_the_store in
-    let K = g.K.Kernel.amounts c.args.kernel.now in let L = c.args.levels.number in
+    let K = g.K.Kernel.amounts c.args.self.now.kernel.now in let L = c.args.self.now.levels.number in
     let all =
     reworks K L (length c.args.samples.now) c.args.rectangle xs f (P c.args.work) q o m w
     c.requires.the_rectangle_is_inside c.requires.enough_samples c.requires.same_sides copied.writes_every_cell
