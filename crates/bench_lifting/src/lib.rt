@@ -1,9 +1,7 @@
-// The transforms at the flat store, for a harness in C: forward and inverse, both kernels, and the kernel chosen at run time.
+// The transforms at the flat store, for a harness in C: forward and inverse, over any kernel.
 #![tactic(auto)]
 
-use kernels::choice::KernelChoice;
-use kernels::five_three::FiveThree;
-use kernels::s_transform::STransform;
+use kernels::kernel::Kernel;
 use lifting::passes::{forward, inverse};
 use planes::cell::Cell;
 use planes::flat::FlatStore;
@@ -16,55 +14,21 @@ fn level_of(number: usize) -> Level {
     }
 }
 
-pub fn forward_five_three(cells: &mut [Cell], rows: usize, columns: usize, levels: usize) {
+// Lifts the records of a plate in place.
+pub fn lift<K: Kernel>(cells: &mut [Cell], rows: usize, columns: usize, kernel: &K, levels: usize) {
     let _store = forward(
         FlatStore::new(cells, rows, columns),
-        &FiveThree,
+        kernel,
         level_of(levels),
     );
 }
 
-pub fn inverse_five_three(cells: &mut [Cell], rows: usize, columns: usize, levels: usize) {
+// Undoes every level again.
+pub fn undo<K: Kernel>(cells: &mut [Cell], rows: usize, columns: usize, kernel: &K, levels: usize) {
     let _store = inverse(
         FlatStore::new(cells, rows, columns),
-        &FiveThree,
+        kernel,
         level_of(levels),
         level_of(0),
-    );
-}
-
-pub fn forward_s_transform(cells: &mut [Cell], rows: usize, columns: usize, levels: usize) {
-    let _store = forward(
-        FlatStore::new(cells, rows, columns),
-        &STransform,
-        level_of(levels),
-    );
-}
-
-pub fn inverse_s_transform(cells: &mut [Cell], rows: usize, columns: usize, levels: usize) {
-    let _store = inverse(
-        FlatStore::new(cells, rows, columns),
-        &STransform,
-        level_of(levels),
-        level_of(0),
-    );
-}
-
-pub fn forward_chosen(
-    cells: &mut [Cell],
-    rows: usize,
-    columns: usize,
-    levels: usize,
-    five_three: bool,
-) {
-    let kernel = if five_three {
-        KernelChoice::FiveThree
-    } else {
-        KernelChoice::STransform
-    };
-    let _store = forward(
-        FlatStore::new(cells, rows, columns),
-        &kernel,
-        level_of(levels),
     );
 }

@@ -1,6 +1,10 @@
-// The exports that the harness in C calls: each is the function of its name in bench_lifting.
+// The exports that the harness in C calls: forward and inverse with both kernels, and forward with the kernel chosen at run time.
 #![tactic(auto)]
 
+use bench_lifting::{lift, undo};
+use kernels::choice::KernelChoice;
+use kernels::five_three::FiveThree;
+use kernels::s_transform::STransform;
 use planes::cell::Cell;
 
 #[unsafe(no_mangle)]
@@ -10,7 +14,7 @@ pub extern "C" fn forward_five_three(
     columns: usize,
     levels: usize,
 ) {
-    bench_lifting::forward_five_three(cells, rows, columns, levels);
+    lift(cells, rows, columns, &FiveThree, levels);
 }
 
 #[unsafe(no_mangle)]
@@ -20,7 +24,7 @@ pub extern "C" fn inverse_five_three(
     columns: usize,
     levels: usize,
 ) {
-    bench_lifting::inverse_five_three(cells, rows, columns, levels);
+    undo(cells, rows, columns, &FiveThree, levels);
 }
 
 #[unsafe(no_mangle)]
@@ -30,7 +34,7 @@ pub extern "C" fn forward_s_transform(
     columns: usize,
     levels: usize,
 ) {
-    bench_lifting::forward_s_transform(cells, rows, columns, levels);
+    lift(cells, rows, columns, &STransform, levels);
 }
 
 #[unsafe(no_mangle)]
@@ -40,7 +44,7 @@ pub extern "C" fn inverse_s_transform(
     columns: usize,
     levels: usize,
 ) {
-    bench_lifting::inverse_s_transform(cells, rows, columns, levels);
+    undo(cells, rows, columns, &STransform, levels);
 }
 
 #[unsafe(no_mangle)]
@@ -51,5 +55,10 @@ pub extern "C" fn forward_chosen(
     levels: usize,
     five_three: bool,
 ) {
-    bench_lifting::forward_chosen(cells, rows, columns, levels, five_three);
+    let kernel = if five_three {
+        KernelChoice::FiveThree
+    } else {
+        KernelChoice::STransform
+    };
+    lift(cells, rows, columns, &kernel, levels);
 }

@@ -13,11 +13,6 @@ const OLD: Cell = Cell {
     bit: false,
 };
 
-// A cell to which a number was put.
-fn put(number: i32) -> Cell {
-    Cell { number, bit: true }
-}
-
 // What a source makes of two rows of three, and how many places it puts.
 fn overlaid<V: Source>(source: &V) -> ([Cell; 6], u128) {
     let mut cells = [OLD; 6];
@@ -39,7 +34,17 @@ fn samples_are_put_row_by_row(rt: HostRuntime) {
         samples: &samples,
     });
     assert_eq!(rt; count, 4);
-    assert_eq!(rt; cells, [OLD, put(1), put(2), OLD, put(3), put(65535)]);
+    assert_eq!(rt;
+        cells,
+        [
+            OLD,
+            Cell::changed(1),
+            Cell::changed(2),
+            OLD,
+            Cell::changed(3),
+            Cell::changed(65535)
+        ]
+    );
 }
 
 #[test]
@@ -56,17 +61,35 @@ fn places_without_a_sample_are_left(rt: HostRuntime) {
         samples: &samples,
     });
     assert_eq!(rt; count, 2);
-    assert_eq!(rt; cells, [OLD, OLD, OLD, put(1), put(2), OLD]);
+    assert_eq!(rt;
+        cells,
+        [OLD, OLD, OLD, Cell::changed(1), Cell::changed(2), OLD]
+    );
 }
 
 #[test]
 fn a_smaller_plane_is_copied_into_the_corner(rt: HostRuntime) {
-    let mut small = [put(1), put(2), put(3), put(4)];
+    let mut small = [
+        Cell::changed(1),
+        Cell::changed(2),
+        Cell::changed(3),
+        Cell::changed(4),
+    ];
     let (cells, count) = overlaid(&Copied {
         plane: &FlatStore::new(&mut small, 2, 2),
     });
     assert_eq!(rt; count, 4);
-    assert_eq!(rt; cells, [put(1), put(2), OLD, put(3), put(4), OLD]);
+    assert_eq!(rt;
+        cells,
+        [
+            Cell::changed(1),
+            Cell::changed(2),
+            OLD,
+            Cell::changed(3),
+            Cell::changed(4),
+            OLD
+        ]
+    );
 }
 
 #[test]
@@ -85,12 +108,19 @@ fn the_cells_of_a_cone_are_put_and_no_others(rt: HostRuntime) -> Result<(), Fail
         assert!(rt; false, "no cone");
         return Ok(());
     };
-    let mut other = [put(1), put(2), put(3), put(4), put(5), put(6)];
+    let mut other = [
+        Cell::changed(1),
+        Cell::changed(2),
+        Cell::changed(3),
+        Cell::changed(4),
+        Cell::changed(5),
+        Cell::changed(6),
+    ];
     let (cells, count) = overlaid(&ConeOf {
         plane: &FlatStore::new(&mut other, 2, 3),
         cone,
     });
     assert_eq!(rt; count, 1);
-    assert_eq!(rt; cells, [put(1), OLD, OLD, OLD, OLD, OLD]);
+    assert_eq!(rt; cells, [Cell::changed(1), OLD, OLD, OLD, OLD, OLD]);
     Ok(())
 }

@@ -6,11 +6,11 @@ ghost use Rattle.faults.specs.Faults.{layer_number, fault_number, fault_layer, f
 #[derive(Clone, Copy, PartialEq, Eq, Debug)]
 pub enum Layer {
     // Reading a PGM file.
-    Pgm,
+    Pgm = 1,
     // Making and using stores and planes.
-    Plane,
+    Plane = 2,
     // Everything else: the plate's calls.
-    Plate,
+    Plate = 3,
 }
 
 // A case that several layers judge holds the layer that did, and one that has a place holds it.
@@ -62,11 +62,7 @@ impl Layer {
     pub fn number(self) -> u8
         ensures is_the_layers_number { result ≡ layer_number self }
     {
-        match self {
-            Layer::Pgm => 1,
-            Layer::Plane => 2,
-            Layer::Plate => 3,
-        }
+        self as u8
     }
 }
 

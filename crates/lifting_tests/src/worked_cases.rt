@@ -20,8 +20,7 @@ fn level(number: usize) -> Level {
 }
 
 fn numbers(cells: [Cell; 4]) -> [i32; 4] {
-    let [a, b, c, d] = cells;
-    [a.number, b.number, c.number, d.number]
+    cells.map(|cell| cell.number)
 }
 
 // What stands in four cells after lifting, after undoing a copy of them to a level, and after lifting that copy again.
@@ -47,8 +46,7 @@ fn check_four<K: Kernel>(
         level(levels),
         level(0),
     );
-    let [a, b, c, d] = samples;
-    assert_eq!(rt; numbers(scratch), [a as i32, b as i32, c as i32, d as i32]);
+    assert_eq!(rt; numbers(scratch), samples.map(|sample| i32::from(sample)));
     lift_again(
         &mut plate,
         &mut scratch,

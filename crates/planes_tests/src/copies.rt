@@ -6,16 +6,7 @@ use planes::rectangle::Rectangle;
 
 // The plane of 3 rows and 4 columns with the numbers 0 to 11.
 fn numbered() -> [Cell; 12] {
-    let mut cells = [Cell {
-        number: 0,
-        bit: false,
-    }; 12];
-    let mut number = 0;
-    for cell in cells.iter_mut() {
-        cell.number = number;
-        number = number.wrapping_add(1);
-    }
-    cells
+    [0, 1, 2, 3, 4, 5, 6, 7, 8, 9, 10, 11].map(|number| Cell { number, bit: false })
 }
 
 // First row, first column, height, width; the output's length; the fault's number, or 0; the output of -1s afterwards.

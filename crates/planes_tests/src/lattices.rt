@@ -7,11 +7,6 @@ use planes::plane::{Plane, Store};
 use std::process::Abort;
 use std::test::Fail;
 
-const BLANK: Cell = Cell {
-    number: 0,
-    bit: false,
-};
-
 // Rows and columns: single rows, single columns, and others.
 const SIDES: [(usize, usize); 8] = [
     (1, 1),
@@ -51,13 +46,7 @@ fn check_row<S: Store>(rt: &impl Abort, store: &S, row: usize, step: usize) -> R
 
 // How many places of a side are on the lattice.
 fn counted(side: usize, step: usize) -> usize {
-    let mut count: usize = 0;
-    for place in 0..side {
-        if is_on(place, step) {
-            count = count.saturating_add(1);
-        }
-    }
-    count
+    (0..side).filter(|place| is_on(*place, step)).count()
 }
 
 fn check_lattice(
@@ -67,7 +56,7 @@ fn check_lattice(
     level: usize,
     step: usize,
 ) -> Result<(), Fail> {
-    let mut cells = [BLANK; 66];
+    let mut cells = [Cell::BLANK; 66];
     let mut layer = LevelLayer::new(FlatStore::new(&mut cells, rows, columns));
     layer.set_level(level)?;
     assert_eq!(rt; layer.rows(), counted(rows, step));
@@ -99,7 +88,7 @@ fn lattices_of_every_level(rt: HostRuntime) -> Result<(), Fail> {
 
 #[test]
 fn levels_over_five_are_declined(rt: HostRuntime) -> Result<(), Fail> {
-    let mut cells = [BLANK; 66];
+    let mut cells = [Cell::BLANK; 66];
     let mut layer = LevelLayer::new(FlatStore::new(&mut cells, 5, 13));
     layer.set_level(3)?;
     assert_eq!(rt; layer.set_level(6), Err(Fault::Levels(Layer::Plane)));

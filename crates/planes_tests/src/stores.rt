@@ -6,17 +6,9 @@ use planes::plane::{Plane, Store};
 use std::process::Abort;
 use std::test::Fail;
 
-const BLANK: Cell = Cell {
-    number: 0,
-    bit: false,
-};
-
 // The number of a fault, or 0.
 fn number_of(fault: Option<Fault>) -> u8 {
-    match fault {
-        Some(fault) => fault.number(),
-        None => 0,
-    }
+    fault.map_or(0, |fault| fault.number())
 }
 
 // Rows, columns and the fault's number, over a buffer of 12 records.
@@ -34,7 +26,7 @@ const FAULTS: [(usize, usize, u8); 10] = [
 ];
 
 fn check_fault(rt: &impl Abort, rows: usize, columns: usize, number: u8) {
-    let mut cells = [BLANK; 12];
+    let mut cells = [Cell::BLANK; 12];
     assert_eq!(rt; number_of(FlatStore::fault(&cells, rows, columns)), number);
     let store = FlatStore::new(&mut cells, rows, columns);
     assert_eq!(rt; store.rows(), if number == 0 { rows } else { 0 });
@@ -51,7 +43,7 @@ fn faults_come_in_order(rt: HostRuntime) {
 #[test]
 fn making_keeps_the_records(rt: HostRuntime) -> Result<(), Fail> {
     let mut cells = [
-        BLANK,
+        Cell::BLANK,
         Cell {
             number: -5,
             bit: true,
@@ -67,8 +59,8 @@ fn making_keeps_the_records(rt: HostRuntime) -> Result<(), Fail> {
 #[test]
 fn clearing_spares_the_records_beyond(rt: HostRuntime) -> Result<(), Fail> {
     let mut cells = [
-        BLANK,
-        BLANK,
+        Cell::BLANK,
+        Cell::BLANK,
         Cell {
             number: 9,
             bit: true,

@@ -14,11 +14,6 @@ use std::alloc::{AllocError, Global};
 use std::process::Abort;
 use std::test::Fail;
 
-const BLANK: Cell = Cell {
-    number: 0,
-    bit: false,
-};
-
 const ROW: Plan = Plan {
     rows: 1,
     columns: 4,
@@ -26,22 +21,15 @@ const ROW: Plan = Plan {
     levels: 2,
 };
 
-fn asked(call: Call) -> Turn {
-    Turn {
-        call,
-        answer: Answer::Pending,
-    }
-}
-
 fn laying(heap: Global, plan: Plan) -> Result<Turn, AllocError> {
-    Ok(asked(Call::Lay {
+    Ok(Turn::waiting(Call::Lay {
         plan,
         samples: vec![in heap; 10, 20, 30, 40]?,
     }))
 }
 
 fn leasing(column: usize) -> Turn {
-    asked(Call::Lease {
+    Turn::waiting(Call::Lease {
         first: PlatePlace { row: 0, column },
         height: 1,
         width: 1,
@@ -50,8 +38,8 @@ fn leasing(column: usize) -> Turn {
 
 fn settling(heap: Global, serial: u32, records: usize) -> Result<Turn, AllocError> {
     let samples = vec![in heap; 44]?;
-    let scratch = vec![in heap; BLANK; records]?;
-    Ok(asked(Call::Settle {
+    let scratch = vec![in heap; Cell::BLANK; records]?;
+    Ok(Turn::waiting(Call::Settle {
         plate: 7,
         serial,
         samples,
@@ -60,10 +48,10 @@ fn settling(heap: Global, serial: u32, records: usize) -> Result<Turn, AllocErro
 }
 
 fn previewing(heap: Global, level: usize) -> Result<Turn, AllocError> {
-    let scratch = vec![in heap; BLANK; 4]?;
+    let scratch = vec![in heap; Cell::BLANK; 4]?;
     let output = vec![in heap; 0; 3]?;
     let first = LatticePlace { row: 0, column: 0 };
-    Ok(asked(Call::Preview {
+    Ok(Turn::waiting(Call::Preview {
         card: Card { level },
         first,
         height: 1,
@@ -74,7 +62,7 @@ fn previewing(heap: Global, level: usize) -> Result<Turn, AllocError> {
 }
 
 fn reading(column: usize) -> Turn {
-    asked(Call::Read {
+    Turn::waiting(Call::Read {
         card: Card::new(),
         at: LatticePlace { row: 0, column },
     })
@@ -107,35 +95,47 @@ fn check_run<K: Kernel + Drop>(
     kernel: K,
     resolution: [i32; 3],
 ) -> Result<(), Fail> {
-    let mut cells = [BLANK; 4];
+    let mut cells = [Cell::BLANK; 4];
     let mut turns = [
         laying(heap, ROW)?,
         leasing(3),
         settling(heap, 1, 4)?,
         previewing(heap, 1)?,
         reading(3),
-        asked(Call::Clear),
+        Turn::waiting(Call::Clear),
         reading(3),
         leasing(0),
-        asked(Call::Surrender {
+        Turn::waiting(Call::Surrender {
             plate: 7,
             serial: 2,
         }),
-        asked(Call::Recall),
+        Turn::waiting(Call::Recall),
     ];
     let plate = run(7, FlatStore::new(&mut cells, 1, 4), kernel, &mut turns);
     let _store = plate.into_store();
-    assert_eq!(rt; turns[0].answer, Answer::Done);
-    assert_eq!(rt; turns[1].answer, Answer::Leased(7, 1));
-    assert_eq!(rt; turns[2].answer, Answer::Settled(3));
-    assert_eq!(rt; turns[3].answer, Answer::Done);
+    assert_eq!(rt; turns[0].answer, Some(Ok(Answer::Done)));
+    assert_eq!(rt; turns[1].answer, Some(Ok(Answer::Leased(7, 1))));
+    assert_eq!(rt; turns[2].answer, Some(Ok(Answer::Settled(3))));
+    assert_eq!(rt; turns[3].answer, Some(Ok(Answer::Done)));
     check_shown(rt, &turns[3], resolution)?;
-    assert_eq!(rt; turns[4].answer, Answer::CellRead(14, true));
-    assert_eq!(rt; turns[5].answer, Answer::Done);
-    assert_eq!(rt; turns[6].answer, Answer::CellRead(14, false));
-    assert_eq!(rt; turns[7].answer, Answer::Leased(7, 2));
-    assert_eq!(rt; turns[8].answer, Answer::Done);
-    assert_eq!(rt; turns[9].answer, Answer::Recalled(None));
+    assert_eq!(rt;
+        turns[4].answer,
+        Some(Ok(Answer::CellRead(Cell {
+            number: 14,
+            bit: true
+        })))
+    );
+    assert_eq!(rt; turns[5].answer, Some(Ok(Answer::Done)));
+    assert_eq!(rt;
+        turns[6].answer,
+        Some(Ok(Answer::CellRead(Cell {
+            number: 14,
+            bit: false
+        })))
+    );
+    assert_eq!(rt; turns[7].answer, Some(Ok(Answer::Leased(7, 2))));
+    assert_eq!(rt; turns[8].answer, Some(Ok(Answer::Done)));
+    assert_eq!(rt; turns[9].answer, Some(Ok(Answer::Recalled(None))));
     Ok(())
 }
 
@@ -153,18 +153,18 @@ fn s_transform_answers_every_call(rt: HostRuntime) -> Result<(), Fail> {
 #[test]
 fn an_unlaid_plate_declines(rt: HostRuntime) -> Result<(), Fail> {
     let heap = rt.alloc();
-    let mut cells = [BLANK; 4];
+    let mut cells = [Cell::BLANK; 4];
     let mut turns = [
         leasing(0),
         settling(heap, 1, 4)?,
-        asked(Call::Surrender {
+        Turn::waiting(Call::Surrender {
             plate: 7,
             serial: 1,
         }),
-        asked(Call::Recall),
+        Turn::waiting(Call::Recall),
         previewing(heap, 1)?,
         reading(0),
-        asked(Call::Clear),
+        Turn::waiting(Call::Clear),
         laying(
             heap,
             Plan {
@@ -177,18 +177,15 @@ fn an_unlaid_plate_declines(rt: HostRuntime) -> Result<(), Fail> {
     ];
     let plate = run(7, FlatStore::new(&mut cells, 1, 4), FiveThree, &mut turns);
     let _store = plate.into_store();
-    assert_eq!(rt; turns[0].answer, Answer::Declined(Fault::Unlaid));
-    assert_eq!(rt; turns[1].answer, Answer::Declined(Fault::WrongLease));
-    assert_eq!(rt; turns[2].answer, Answer::Declined(Fault::WrongLease));
-    assert_eq!(rt; turns[3].answer, Answer::Recalled(None));
-    assert_eq!(rt; turns[4].answer, Answer::Declined(Fault::Unlaid));
+    assert_eq!(rt; turns[0].answer, Some(Err(Fault::Unlaid)));
+    assert_eq!(rt; turns[1].answer, Some(Err(Fault::WrongLease)));
+    assert_eq!(rt; turns[2].answer, Some(Err(Fault::WrongLease)));
+    assert_eq!(rt; turns[3].answer, Some(Ok(Answer::Recalled(None))));
+    assert_eq!(rt; turns[4].answer, Some(Err(Fault::Unlaid)));
     check_shown(&rt, &turns[4], [0, 0, 0])?;
-    assert_eq!(rt; turns[5].answer, Answer::Declined(Fault::Unlaid));
-    assert_eq!(rt; turns[6].answer, Answer::Declined(Fault::Unlaid));
-    assert_eq!(rt;
-        turns[7].answer,
-        Answer::Declined(Fault::Levels(Layer::Plate))
-    );
+    assert_eq!(rt; turns[5].answer, Some(Err(Fault::Unlaid)));
+    assert_eq!(rt; turns[6].answer, Some(Err(Fault::Unlaid)));
+    assert_eq!(rt; turns[7].answer, Some(Err(Fault::Levels(Layer::Plate))));
     Ok(())
 }
 
@@ -196,19 +193,22 @@ fn an_unlaid_plate_declines(rt: HostRuntime) -> Result<(), Fail> {
 #[test]
 fn serials_are_spent(rt: HostRuntime) -> Result<(), Fail> {
     let heap = rt.alloc();
-    let mut cells = [BLANK; 4];
+    let mut cells = [Cell::BLANK; 4];
     let mut turns = Vec::new(heap);
     turns.push(laying(heap, ROW)?)?;
     for _ in 0..65535 {
         turns.push(leasing(0))?;
-        turns.push(asked(Call::Recall))?;
+        turns.push(Turn::waiting(Call::Recall))?;
     }
     turns.push(leasing(0))?;
     let plate = run(7, FlatStore::new(&mut cells, 1, 4), FiveThree, &mut turns);
     let _store = plate.into_store();
     assert!(rt; turns.len() == 131072);
-    assert_eq!(rt; turns[131069].answer, Answer::Leased(7, 65535));
-    assert_eq!(rt; turns[131070].answer, Answer::Recalled(Some(65535)));
-    assert_eq!(rt; turns[131071].answer, Answer::Declined(Fault::SerialsSpent));
+    assert_eq!(rt; turns[131069].answer, Some(Ok(Answer::Leased(7, 65535))));
+    assert_eq!(rt;
+        turns[131070].answer,
+        Some(Ok(Answer::Recalled(Some(65535))))
+    );
+    assert_eq!(rt; turns[131071].answer, Some(Err(Fault::SerialsSpent)));
     Ok(())
 }

@@ -8,14 +8,7 @@ use planes::level::Level;
 use planes::rectangle::Rectangle;
 use std::process::Abort;
 use std::test::Fail;
-use works::lay::lay;
-use works::preview::preview;
-use works::settle::settle;
-
-const BLANK: Cell = Cell {
-    number: 0,
-    bit: false,
-};
+use works::transform::Transform;
 
 // Some places of the row.
 fn places(first: usize, width: usize) -> Rectangle {
@@ -28,12 +21,7 @@ fn places(first: usize, width: usize) -> Rectangle {
 }
 
 fn numbers(cells: &[Cell; 4]) -> [i32; 4] {
-    [
-        cells[0].number,
-        cells[1].number,
-        cells[2].number,
-        cells[3].number,
-    ]
+    cells.map(|cell| cell.number)
 }
 
 // The cells when 10 20 30 40 is laid, those after the last is replaced by 44, and resolution 1 then.
@@ -44,8 +32,8 @@ fn check_row<K: Kernel>(
     settled: [i32; 4],
     shown: [i32; 2],
 ) -> Result<(), Fail> {
-    let mut cells = [BLANK; 4];
-    let mut scratch = [BLANK; 4];
+    let mut cells = [Cell::BLANK; 4];
+    let mut scratch = [Cell::BLANK; 4];
     let mut output = [0; 2];
     let Some(levels) = Level::new(2) else {
         assert!(rt; false, "no such level");
@@ -55,20 +43,15 @@ fn check_row<K: Kernel>(
         assert!(rt; false, "no such level");
         return Ok(());
     };
+    let transform = Transform { kernel, levels };
     assert!(rt;
-        lay(
-            &mut FlatStore::new(&mut cells, 1, 4),
-            kernel,
-            levels,
-            &[10, 20, 30, 40],
-        )
-        .is_some()
+        transform
+            .lay(&mut FlatStore::new(&mut cells, 1, 4), &[10, 20, 30, 40])
+            .is_some()
     );
     assert_eq!(rt; numbers(&cells), laid);
-    let count = settle(
+    let count = transform.settle(
         &mut FlatStore::new(&mut cells, 1, 4),
-        kernel,
-        levels,
         places(3, 1),
         &[44],
         &mut scratch,
@@ -76,16 +59,15 @@ fn check_row<K: Kernel>(
     assert_eq!(rt; count, Some(3));
     assert_eq!(rt; numbers(&cells), settled);
     assert!(rt;
-        preview(
-            &FlatStore::new(&mut cells, 1, 4),
-            kernel,
-            levels,
-            level,
-            places(0, 2),
-            &mut scratch,
-            &mut output,
-        )
-        .is_some()
+        transform
+            .preview(
+                &FlatStore::new(&mut cells, 1, 4),
+                level,
+                places(0, 2),
+                &mut scratch,
+                &mut output,
+            )
+            .is_some()
     );
     assert_eq!(rt; output, shown);
     Ok(())
