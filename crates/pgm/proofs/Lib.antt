@@ -1,3 +1,6 @@
+pub mod First
+pub mod Mapped
+pub mod Cases
 pub mod Scan
 pub mod Rests
 pub mod Outcomes
