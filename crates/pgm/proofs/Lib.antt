@@ -1,7 +1,7 @@
 pub mod First
 pub mod Mapped
 pub mod Cases
-pub mod Scan
+pub mod Fronts
 pub mod Rests
 pub mod Outcomes
 pub mod Splits
