@@ -1,7 +1,7 @@
 -- Each way out of the header's reader, by what its numbers say.
 use Rattle.std.proofs.Common.{length, get_or, ap, inl, inr, ⊎_elim, arith}
 use Rattle.pgm.proofs.Rests.{class_blank, class_not_blank}
-use Rattle.pgm.proofs.Stages.{fail_1, fail_2, fail_3, fail_4, accepts, more}
+use Rattle.pgm.proofs.Stages.{fail_1, fail_2, fail_3, fail_4, accepts}
 use Rattle.pgm.proofs.header.read_header.Goals as goal
 
 pub returns-in_default : goal.returns-in_default
