@@ -50,7 +50,8 @@ impl Part {
     }
 }
 
-// The runs of a row of a store, from left to right: those that end at a column or behind it. So many cells of the run that goes on lie before it.
+// The runs of a row of a store, from left to right. Left are those that end at `column` or behind it; before it lie `begun` cells of a run that
+// goes on, or none.
 #[derive(Drop)]
 pub(crate) struct Runs<'a, S: Store> {
     store: &'a S,
