@@ -9,6 +9,12 @@ with-counts-requires-clause-runs g c =
     let few = counted_few p.number (g.S.Store.bits c.args.store.now) p.width c.args.row c.loop-run.yielded _ c.loop-run.counts.runs c.loop-run.counts.cells c.loop-run.invariant in
     omega (arith, few.0, c.of-run-items.ensures.has_its_columns)
 
+pub with-counts-requires-clause-cells : goal.with-counts-requires-clause-cells
+with-counts-requires-clause-cells g c =
+    let p = g.S.Plane.picture c.args.store.now in
+    let few = counted_few p.number (g.S.Store.bits c.args.store.now) p.width c.args.row c.loop-run.yielded _ c.loop-run.counts.runs c.loop-run.counts.cells c.loop-run.invariant in
+    omega (arith, few.1, c.of-run-items.ensures.has_its_columns)
+
 pub loop-run-preserved : goal.loop-run-preserved
 loop-run-preserved g c =
     let p = g.S.Plane.picture c.args.store.now in
