@@ -2,6 +2,7 @@
 use Rattle.std.proofs.Common.{◌≡◌, ℕ, zero, suc, ◌+◌, ◌-◌, ◌*◌, ◌<◌, ◌≤◌, Bool, List, [], ◌∷◌, ◌++◌, length, take, ℤ, sym, refl, ap, ◌∙◌, subst, append_assoc, append-nil, add-zero, add_assoc, add-one, arith}
 use Rattle.std.specs.List.{flat_map, AllByRecursion}
 use Rattle.std.proofs.lemmas.List.{length-append, take_at}
+use Rattle.std.proofs.lemmas.Grind.{flat_map-append}
 use Rattle.planes.specs.Planes.{Cells}
 use Rattle.frames.specs.Frames.{frame_line, over}
 use Rattle.frames.proofs.Over.{over_none, over_next}
@@ -10,8 +11,9 @@ use Rattle.sheets.specs.declared.runs.Run.{Run}
 use Rattle.sheets.specs.Runs.{Inside, named, changed_cells, cells_from, named_by, row_runs, runs}
 use Rattle.sheets.specs.Sheets.{head_frame, number_bytes, cell_bytes, run_head, run_frame, run_line, end_frame, run_lines, sheet_text}
 use Rattle.sheets.proofs.Walking.{runs_more}
-use Rattle.sheets.proofs.Naming.{joined_append, cells_more, cells_none}
+use Rattle.sheets.proofs.Naming.{cells_more, cells_none}
 use Rattle.sheets.specs.Laws.{CutAsRuled}
+use Rattle.sheets.proofs.Only.{all_right}
 use Rattle.sheets.proofs.Sizes.{length_bytes, length_cells, length_run_frame, length_run_line, one_more, all_done}
 
 -- a frame with the head of a run, and then the numbers of its first n cells
@@ -25,7 +27,7 @@ module _ (x : Cells ℤ) (r c : ℕ) where
       let so_far = flat_map cell_bytes (cells_from x r c n) in
       (λ i. over (e i) (6 + 4 * n) (f i))
       ∙ over_next was 6 (6 + 4 * n) so_far (number_bytes (x r (c + n))) h (omega (arith, length_bytes (cells_from x r c n), length_cells x r c n))
-      ∙ ap (over was 6) (sym (ap (flat_map cell_bytes) (cells_more x r c n) ∙ joined_append cell_bytes (cells_from x r c n) (named x r (c + n) ∷ [])))
+      ∙ ap (over was 6) (sym (ap (flat_map cell_bytes) (cells_more x r c n) ∙ flat_map-append cell_bytes (cells_from x r c n) (named x r (c + n) ∷ [])))
 
 pub bytes_all : (x : Cells ℤ) (run : Run) (was head frame bytes : List ℕ) (n : ℕ) → n ≡ run.count → 0 ≤ length was → bytes ≡ run_head run → head ≡ over was 0 bytes
     → frame ≡ over head 6 (flat_map cell_bytes (cells_from x run.row run.first n)) → frame ≡ over was 0 (run_frame x run)
@@ -48,16 +50,12 @@ one_line x run = append-nil (run_line x run)
 
 pub lines_append : (x : Cells ℤ) (rs ss : List Run) → run_lines x (rs ++ ss) ≡ run_lines x rs ++ run_lines x ss
 unfolding run_lines
-lines_append x rs ss = joined_append (run_line x) rs ss
+lines_append x rs ss = flat_map-append (run_line x) rs ss
 
 -- numbers that never fall
 rising : (f : ℕ → ℕ) → ((n : ℕ) → f n ≤ f (n + 1)) → (n k : ℕ) → f n ≤ f (n + k)
 rising f h n zero = omega (arith, ap f (add-zero n))
 rising f h n (suc k) = omega (arith, rising f h n k, h (n + k), ap f (add_assoc n k 1), ap (λ z. f (n + z)) (add-one k))
-
-at_seam : {X : Type 0} (P : X → Type 0) (xs : List X) (y : X) (ys : List X) → AllByRecursion P (xs ++ y ∷ ys) → P y
-at_seam P [] y ys a = a.0
-at_seam P (x ∷ xs) y ys a = at_seam P xs y ys a.1
 
 -- A loop has written the lines of all runs but those that are left.
 pub record Written (x : Cells ℤ) (all done left : List Run) (was out : List ℕ) (start at : ℕ) : Type 0 where
@@ -97,7 +95,7 @@ module _ (x : Cells ℤ) (all : List Run) (was : List ℕ) (start : ℕ) where
         )
 
     pub is_one_of_them : (P : Run → Type 0) → AllByRecursion P all → P run
-    is_one_of_them P a = at_seam P done run left' (subst (AllByRecursion P) (sym (ap (λ z. done ++ z) (sym e) ∙ w.split)) a)
+    is_one_of_them P a = (all_right P done (run ∷ left') (subst (AllByRecursion P) (sym (ap (λ z. done ++ z) (sym e) ∙ w.split)) a)).0
 
   pub written_all : (done left : List Run) (at : ℕ) (out : List ℕ) → Written x all done left was out start at → left ≡ [] → (out ≡ over was start (run_lines x all)) × (at ≡ start + length (run_lines x all))
   written_all done left at out w e =

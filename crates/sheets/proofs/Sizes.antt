@@ -2,6 +2,7 @@
 use Rattle.std.proofs.Common.{◌≡◌, ℕ, zero, suc, ◌+◌, ◌-◌, ◌*◌, ◌^◌, ◌<◌, ◌≤◌, Bool, true, false, cond, List, [], ◌∷◌, ◌++◌, length, ℤ, sym, refl, ap, ◌∙◌, append_assoc, append-nil, suc-mul, add-one, arith}
 use Rattle.std.specs.List.{flat_map, AllByRecursion}
 use Rattle.std.proofs.lemmas.List.{length-append}
+use Rattle.std.proofs.lemmas.Grind.{flat_map-append}
 use Rattle.planes.specs.Planes.{Cells}
 use Rattle.frames.specs.Frames.{frame_line}
 use Rattle.frames.proofs.Over.{length_line}
@@ -11,7 +12,7 @@ use Rattle.sheets.specs.Runs.{Named, named, changed_in_row, changed_cells, cells
 use Rattle.sheets.specs.Sheets.{head_frame, cell_bytes, run_head, run_frame, run_line, end_frame, run_lines, sheet_text}
 use Rattle.sheets.specs.Laws.{CutAsRuled, ASheetHas}
 use Rattle.sheets.proofs.Walking.{runs_more}
-use Rattle.sheets.proofs.Naming.{joined_append, row_names, runs_name, row_cut, the_runs_name}
+use Rattle.sheets.proofs.Naming.{row_names, runs_name, row_cut, the_runs_name}
 
 pub length_cells : (x : Cells ℤ) (r c n : ℕ) → length (cells_from x r c n) ≡ n
 unfolding cells_from
@@ -108,7 +109,7 @@ module _ (x : Cells ℤ) (all : List Run) where
       arith,
       k,
       p.cells_are,
-      ap length (joined_append (named_by x) done (run ∷ [])),
+      ap length (flat_map-append (named_by x) done (run ∷ [])),
       length-append (flat_map (named_by x) done) (named_by x run ++ []),
       length-append (named_by x run) [],
       length_cells x run.row run.first run.count,
@@ -124,7 +125,7 @@ module _ (x : Cells ℤ) (b : Cells Bool) (C r : ℕ) (done left : List Run) (ru
       let cells_few : length (flat_map (named_by x) all) ≤ C = omega (arith, ap length (row_names x b C r), changed_at_most x b r C) in
       let runs_all : length all ≡ length done + length left = ap length (sym p.split) ∙ length-append done left in
       let cells_all : length (flat_map (named_by x) all) ≡ length (flat_map (named_by x) done) + length (flat_map (named_by x) left) =
-      ap (λ z. length (flat_map (named_by x) z)) (sym p.split) ∙ ap length (joined_append (named_by x) done left) ∙ length-append (flat_map (named_by x) done) (flat_map (named_by x) left) in
+      ap (λ z. length (flat_map (named_by x) z)) (sym p.split) ∙ ap length (flat_map-append (named_by x) done left) ∙ length-append (flat_map (named_by x) done) (flat_map (named_by x) left) in
       (omega (arith, p.runs_are), omega (arith, p.cells_are))
 
   pub counted_all : left ≡ [] → (runs ≡ length (row_runs (b r) r C C)) × (cells ≡ length (changed_in_row x b r C))
