@@ -1,10 +1,9 @@
 -- A text put over a buffer, and lines.
-use Rattle.std.proofs.Common.{◌≡◌, ℕ, ◌+◌, ◌-◌, ◌*◌, ◌%◌, ◌<◌, ◌≤◌, List, [], ◌∷◌, ◌++◌, length, get_or, take, drop, set, sum, sym, refl, ap, ◌∙◌, append_assoc, append-nil, add-one, arith}
+use Rattle.std.proofs.Common.{◌≡◌, ℕ, ◌+◌, ◌*◌, ◌<◌, ◌≤◌, List, [], ◌∷◌, ◌++◌, length, get_or, take, drop, set, sym, refl, ap, ◌∙◌, append_assoc, append-nil, add-one, arith}
 use Rattle.std.specs.List.{flat_map}
 use lib.Seq.{paste}
 use Rattle.std.proofs.lemmas.List.{length-append, take_more, flat_map_more, take_all, drop_all, length-take-le, take-append-drop}
 use Rattle.std.proofs.lemmas.List.Edits.{sets-eq, paste_all, paste-paste, length-paste}
-use Rattle.std.proofs.lemmas.List.Sums.{sum_by_more}
 use Rattle.frames.specs.Frames.{hex_byte, frame_line, over, check_byte}
 
 pub over_none : (out : List ℕ) (at : ℕ) → out ≡ over out at []
@@ -54,32 +53,28 @@ hex_more xs i h = flat_map_more hex_byte [] (take i xs) (get_or xs i 0) ∙ ap (
 
 -- a loop that writes the first i bytes of a frame
 module _ (out : List ℕ) (at : ℕ) (frame : List ℕ) (room : at + (2 * length frame + 3) ≤ length out)
-    (i place total : ℕ) (o : List ℕ) (p : place ≡ at + 2 * i) (t : total ≡ sum (take i frame) % 256) (e : o ≡ over out at (flat_map hex_byte (take i frame))) where
+    (i : ℕ) (o : List ℕ) (e : o ≡ over out at (flat_map hex_byte (take i frame))) where
   length_so_far : i ≤ length frame → length (flat_map hex_byte (take i frame)) ≡ 2 * i
   length_so_far h = length_hex (take i frame) ∙ ap (λ n. 2 * n) (length-take-le i frame h)
 
-  pub byte_more : i < length frame → over o place (hex_byte (get_or frame i 0)) ≡ over out at (flat_map hex_byte (take (i + 1) frame))
+  pub byte_more : i < length frame → over o (at + 2 * i) (hex_byte (get_or frame i 0)) ≡ over out at (flat_map hex_byte (take (i + 1) frame))
   byte_more h =
-      ap (λ q. over q place (hex_byte (get_or frame i 0))) e
-      ∙ over_next out at place (flat_map hex_byte (take i frame)) (hex_byte (get_or frame i 0)) (omega arith) (omega (arith, length_so_far (omega arith)))
+      ap (λ q. over q (at + 2 * i) (hex_byte (get_or frame i 0))) e
+      ∙ over_next out at (at + 2 * i) (flat_map hex_byte (take i frame)) (hex_byte (get_or frame i 0)) (omega arith) (omega (arith, length_so_far (omega arith)))
       ∙ ap (over out at) (hex_more frame i h)
 
-  pub sum_more : i < length frame → (total + get_or frame i 0) % 256 ≡ sum (take (i + 1) frame) % 256
-  sum_more h = omega (arith, sum_by_more (λ x. x) frame i 0 h)
-
-  pub line_all : length frame ≤ i → i ≤ length frame → (b : ℕ) → b ≡ (256 - total) % 256 → set (over o place (hex_byte b)) (place + 2) 10 ≡ over out at (frame_line frame)
+  -- and then the check byte and the end
+  pub line_all : length frame ≤ i → (b : ℕ) → b ≡ check_byte frame → set (over o (at + 2 * length frame) (hex_byte b)) (at + 2 * length frame + 2) 10 ≡ over out at (frame_line frame)
   unfolding frame_line
-  line_all h k b f =
-      let n : i ≡ length frame = omega arith in
-      let full : take i frame ≡ frame = take_all i frame h in
-      let g : b ≡ check_byte frame = omega (arith, ap sum full) in
+  line_all h b f =
+      let end = at + 2 * length frame in
       let bytes = flat_map hex_byte frame ++ hex_byte (check_byte frame) in
-      let l : over o place (hex_byte b) ≡ over out at bytes =
-      ap (λ q. over q place (hex_byte b)) (e ∙ ap (λ q. over out at (flat_map hex_byte q)) full)
-      ∙ over_next out at place (flat_map hex_byte frame) (hex_byte b) (omega arith) (omega (arith, length_hex frame))
-      ∙ ap (λ q. over out at (flat_map hex_byte frame ++ hex_byte q)) g in
+      let l : over o end (hex_byte b) ≡ over out at bytes =
+      ap (λ q. over q end (hex_byte b)) (e ∙ ap (λ q. over out at (flat_map hex_byte q)) (take_all i frame h))
+      ∙ over_next out at end (flat_map hex_byte frame) (hex_byte b) (omega arith) (omega (arith, length_hex frame))
+      ∙ ap (λ q. over out at (flat_map hex_byte frame ++ hex_byte q)) f in
       let long : length bytes ≡ 2 * length frame + 2 = length-append (flat_map hex_byte frame) (hex_byte (check_byte frame)) ∙ omega (arith, length_hex frame) in
-      ap (λ q. set q (place + 2) 10) l
-      ∙ over_one _ (place + 2) 10 (omega (arith, length_over out at bytes (omega arith)))
-      ∙ over_next out at (place + 2) bytes (10 ∷ []) (omega arith) (omega arith)
+      ap (λ q. set q (end + 2) 10) l
+      ∙ over_one _ (end + 2) 10 (omega (arith, length_over out at bytes (omega arith)))
+      ∙ over_next out at (end + 2) bytes (10 ∷ []) (omega arith) (omega arith)
       ∙ ap (over out at) (append_assoc (flat_map hex_byte frame) (hex_byte (check_byte frame)) (10 ∷ []))

@@ -2,7 +2,7 @@
 #![tactic(auto)]
 
 ghost use Rattle.std.specs.Prelude.{◌≡◌, ℕ, ◌+◌, ◌*◌, ◌<◌, ◌≤◌, length, MatchOption};
-ghost use Rattle.frames.specs.Frames.{hex_digit, hex_byte, frame_line, fault_frame, two_bytes, four_bytes, over};
+ghost use Rattle.frames.specs.Frames.{hex_digit, hex_byte, check_byte, frame_line, fault_frame, two_bytes, four_bytes, over};
 
 use faults::fault::Fault;
 
@@ -21,22 +21,27 @@ fn put_byte(out: &mut [u8], at: usize, b: u8)
     out[at + 1] = hex_digit(b % 16);
 }
 
+// The byte that makes the sum of a frame's bytes a multiple of 256.
+fn check_byte(frame: &[u8]) -> u8
+    ensures is_the_check_byte { result ≡ check_byte frame.now }
+{
+    let sum = frame.iter().fold(0u8, |sum, b| sum.wrapping_add(*b));
+    0u8.wrapping_sub(sum)
+}
+
 // Writes the line of a frame that is known to have room, and answers where it ends.
 fn put_line(out: &mut [u8], at: usize, frame: &[u8]) -> usize
     requires { at + (2 * length frame.now + 3) ≤ length out.old }
     ensures writes_the_line { out.new ≡ over out.old at (frame_line frame.now) }
     ensures answers_its_end { result ≡ at + (2 * length frame.now + 3) }
 {
-    let mut sum = 0u8;
-    let mut place = at;
-    for b in frame {
-        put_byte(out, place, *b);
-        sum = sum.wrapping_add(*b);
-        place += 2;
+    for (i, b) in frame.iter().enumerate() {
+        put_byte(out, at + 2 * i, *b);
     }
-    put_byte(out, place, 0u8.wrapping_sub(sum));
-    out[place + 2] = b'\n';
-    place + 3
+    let end = at + 2 * frame.len();
+    put_byte(out, end, check_byte(frame));
+    out[end + 2] = b'\n';
+    end + 3
 }
 
 // Writes the line of a frame at a place of the output and answers where it ends, or none where there is no room for it.
@@ -57,7 +62,7 @@ pub fn write_line(out: &mut [u8], at: usize, frame: &[u8]) -> Option<usize>
 pub fn two_bytes(n: usize) -> [u8; 2]
     ensures are_the_two_low_bytes { result ≡ two_bytes n }
 {
-    [(n / 256 % 256) as u8, (n % 256) as u8]
+    ((n % 0x1_0000) as u16).to_be_bytes()
 }
 
 // The four low bytes of a number, high byte first.

@@ -1,4 +1,7 @@
-pub mod Scan
+pub mod First
+pub mod Mapped
+pub mod Cases
+pub mod Fronts
 pub mod Rests
 pub mod Outcomes
 pub mod Splits

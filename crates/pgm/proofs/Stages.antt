@@ -67,7 +67,7 @@ module _ (xs : List ℕ) where
         here : drop l xs ≡ last.b ∷ last.zs
         here = rest (λ n zs. Any 0 zs) xs Gap j t l last
 
-        pub more : l < length xs
+        more : l < length xs
         more = omega (arith, ap length here, length-drop l xs)
 
         byte : get_or xs l 0 ≡ last.b

@@ -1,5 +1,5 @@
 // The header's reader: from state to state, a byte at a time.
-ghost use Rattle.std.specs.Prelude.{◌≡◌, ℕ, ◌≤◌, [], ◌∷◌, length, take, drop, Option, MatchResult};
+ghost use Rattle.std.specs.Prelude.{◌≡◌, ℕ, ◌<◌, ◌≤◌, [], ◌∷◌, length, take, drop, Option, IfSome, MatchResult};
 ghost use Rattle.pgm.specs.Grammar.{HeaderText, Unfitting};
 ghost use Rattle.pgm.specs.Machine.{class, next, Decimal, Counted, scan};
 
@@ -85,6 +85,7 @@ impl Reader<'_> {
     fn number(&mut self, from: State) -> Option<u32>
         requires { Counted from × (self.old.at ≤ length self.old.bytes.now) }
         ensures scans_a_number { ◌≡◌ {A = Option ℕ × ℕ} (result, self.new.at) (scan from self.old.at (drop self.old.at self.old.bytes.now)) }
+        ensures stops_at_a_byte { IfSome result (λ n. self.new.at < length self.old.bytes.now) }
         ensures stays_within { self.new.at ≤ length self.old.bytes.now }
         ensures keeps_the_bytes { self.new.bytes.now ≡ self.old.bytes.now }
     {
@@ -127,15 +128,13 @@ pub(crate) fn read_header(bytes: &[u8]) -> Result<Header, usize>
         return Err(reader.at);
     };
     let at = reader.at;
-    if at < bytes.len() {
-        if let Class::Blank | Class::Newline = class_of(bytes[at]) {
-            return Ok(Header {
-                columns,
-                rows,
-                top,
-                length: at + 1,
-            });
-        }
+    match class_of(bytes[at]) {
+        Class::Blank | Class::Newline => Ok(Header {
+            columns,
+            rows,
+            top,
+            length: at + 1,
+        }),
+        _ => Err(at),
     }
-    Err(at)
 }

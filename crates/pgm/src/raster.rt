@@ -1,6 +1,7 @@
 // The raster: one or two bytes a sample, high byte first.
-ghost use Rattle.std.specs.Prelude.{◌≡◌, ℕ, ◌+◌, ◌*◌, ◌<◌, ◌≤◌, ltb, [], ◌∷◌, length, nat_lt};
-ghost use Rattle.faults.specs.Tables.{first_fault, first_index};
+ghost use Rattle.std.specs.Prelude.{◌≡◌, ◌+◌, ◌*◌, ◌<◌, ◌≤◌, [], ◌∷◌, length, nat_lt};
+ghost use Rattle.std.specs.Result.{result_err};
+ghost use Rattle.faults.specs.Tables.{first_fault};
 ghost use Rattle.pgm.specs.Reading.{sample, sample_check, Filled};
 ghost use Rattle.pgm.specs.Reading.{sample_size as bytes_of};
 
@@ -14,55 +15,56 @@ pub(crate) fn sample_size(top: u32) -> usize
     if top < 256 { 1 } else { 2 }
 }
 
-fn sample_at(bytes: &[u8], from: usize, top: u32, i: usize) -> u16
-    requires { (from + bytes_of top * (i + 1) ≤ length bytes.now) × (i < 16777216) × (top < 65536) }
-    ensures is_the_sample { result ≡ sample bytes.now from top i }
-{
-    if top < 256 {
-        bytes[from + i] as u16
-    } else {
-        u16::from_be_bytes([bytes[from + 2 * i], bytes[from + 2 * i + 1]])
-    }
+// The samples of a picture: so many, from a byte of its file on, and all of them in the file.
+#[derive(Clone, Copy)]
+pub(crate) struct Raster<'a> {
+    pub bytes: &'a [u8],
+    pub from: usize,
+    pub top: u32,
+    pub count: usize,
+    ghost in_the_file: { from + bytes_of top * count ≤ length bytes.now },
+    ghost of_a_plate: { count ≤ 16777216 },
+    ghost of_two_bytes: { top < 65536 },
 }
 
-fn is_over(bytes: &[u8], from: usize, top: u32, i: usize) -> bool
-    requires { (from + bytes_of top * (i + 1) ≤ length bytes.now) × (i < 16777216) × (top < 65536) }
-    ensures tells_a_sample_over_the_top { result ≡ nat_lt top (sample bytes.now from top i) }
-{
-    top < sample_at(bytes, from, top, i) as u32
-}
-
-// The index of the first sample over the top, or the count.
-fn first_over(bytes: &[u8], from: usize, top: u32, count: usize) -> usize
-    requires { (from + bytes_of top * count ≤ length bytes.now) × (count ≤ 16777216) × (top < 65536) }
-    ensures is_the_first_index_over_the_top { result ≡ first_index (λ k. ltb top (sample bytes.now from top k)) count }
-{
-    for i in 0..count {
-        if is_over(bytes, from, top, i) {
-            return i;
+impl Raster<'_> {
+    fn sample(&self, i: usize) -> u16
+        requires { i < self.now.count }
+        ensures is_the_sample { result ≡ sample self.now.bytes.now self.now.from self.now.top i }
+    {
+        if self.top < 256 {
+            self.bytes[self.from + i] as u16
+        } else {
+            let at = self.from + 2 * i;
+            u16::from_be_bytes([self.bytes[at], self.bytes[at + 1]])
         }
     }
-    count
-}
 
-// Why the samples are declined, if they are.
-pub(crate) fn sample_fault(bytes: &[u8], from: usize, top: u32, count: usize) -> Option<Fault>
-    requires { (from + bytes_of top * count ≤ length bytes.now) × (count ≤ 16777216) × (top < 65536) }
-    ensures is_the_first_sample_over_the_top { result ≡ first_fault (sample_check bytes.now from top count ∷ []) }
-{
-    let index = first_over(bytes, from, top, count);
-    if index < count {
-        Some(Fault::Sample(Layer::Pgm, index))
-    } else {
-        None
+    fn is_over(&self, i: usize) -> bool
+        requires { i < self.now.count }
+        ensures tells_a_sample_over_the_top { result ≡ nat_lt self.now.top (sample self.now.bytes.now self.now.from self.now.top i) }
+    {
+        self.top < self.sample(i) as u32
     }
-}
 
-pub(crate) fn copy_samples(bytes: &[u8], from: usize, top: u32, count: usize, samples: &mut [u16])
-    requires { (from + bytes_of top * count ≤ length bytes.now) × (count ≤ 16777216) × (top < 65536) × (count ≤ length samples.old) }
-    ensures fills_the_front { Filled bytes.now from top count samples.old samples.new }
-{
-    for i in 0..count {
-        samples[i] = sample_at(bytes, from, top, i);
+    // Declines the samples where one exceeds the top.
+    pub(crate) fn check(&self) -> Result<(), Fault>
+        ensures names_the_first_sample_over_the_top { result_err result ≡ first_fault (sample_check self.now.bytes.now self.now.from self.now.top self.now.count ∷ []) }
+    {
+        match (0..self.count).find(|i| self.is_over(*i)) {
+            Some(index) => Err(Fault::Sample(Layer::Pgm, index)),
+            None => Ok(()),
+        }
+    }
+
+    // Copies the samples into the front of a buffer.
+    pub(crate) fn copy(&self, samples: &mut [u16])
+        requires room { self.now.count ≤ length samples.old }
+        ensures fills_the_front { Filled self.now.bytes.now self.now.from self.now.top self.now.count samples.old samples.new }
+    {
+        let front = &mut samples[..self.count];
+        for (i, place) in front.iter_mut().enumerate() {
+            *place = self.sample(i);
+        }
     }
 }

@@ -1,12 +1,12 @@
 // Reading a whole file.
-ghost use Rattle.std.specs.Prelude.{◌≡◌, ℕ, ◌+◌, ◌*◌, ◌<◌, ◌≤◌, length, MatchOption};
+ghost use Rattle.std.specs.Prelude.{◌≡◌, ◌*◌, ◌≤◌, length, take, IfOk};
+ghost use Rattle.std.specs.Result.{result_err};
 ghost use Rattle.faults.specs.Tables.{first_fault};
 ghost use Rattle.pgm.specs.Grammar.{AtMostOneHeader};
 ghost use Rattle.pgm.specs.Reading.{size_checks, Reads};
-ghost use Rattle.pgm.specs.Reading.{sample_size as bytes_of};
 
 use crate::header::{Header, read_header};
-use crate::raster::{copy_samples, sample_fault, sample_size};
+use crate::raster::{Raster, sample_size};
 use faults::fault::{Fault, Layer};
 
 // The picture that a file holds, without its samples.
@@ -17,59 +17,66 @@ pub struct Picture {
     pub top: u32,
 }
 
-// Why a header is declined in a file of `size` bytes, for a buffer with room for `room` samples, if it is.
-fn size_fault(header: Header, size: usize, room: usize) -> Option<Fault>
-    requires { header.length ≤ size }
-    ensures is_the_first_check_that_fails { result ≡ first_fault (size_checks header.columns header.rows header.top header.length size room) }
-    ensures leaves_lawful_sizes { MatchOption result
-        ((header.columns ≤ 4096) × (header.rows ≤ 4096) × (header.top < 65536)
-        × (header.length + bytes_of header.top * (header.rows * header.columns) ≤ size) × (header.rows * header.columns ≤ room))
-        (λ _. Unit {0}) }
-{
-    let Header {
-        columns,
-        rows,
-        top,
-        length,
-    } = header;
-    if columns < 1 || columns > 4096 || rows < 1 || rows > 4096 {
-        return Some(Fault::Size(Layer::Pgm));
+impl Picture {
+    // The picture's samples, where they stand in the front of a buffer.
+    pub fn raster(self, samples: &[u16]) -> &[u16]
+        ensures is_the_raster { result.now ≡ take (self.rows * self.columns) samples.now }
+    {
+        let count = self.rows as usize * self.columns as usize;
+        samples.get(..count).unwrap_or(samples)
     }
-    if top < 1 || top > 65535 {
-        return Some(Fault::Top(Layer::Pgm));
+}
+
+impl Header {
+    // The raster of a picture that a buffer of `room` samples has room for.
+    fn raster(self, bytes: &[u8], room: usize) -> Result<Raster<'_>, Fault>
+        requires { self.length ≤ length bytes.now }
+        ensures names_the_first_check_that_fails { result_err result ≡ first_fault (size_checks self.columns self.rows self.top self.length (length bytes.now) room) }
+        ensures has_the_samples { IfOk result (λ raster. (raster.bytes.now ≡ bytes.now) × (raster.from ≡ self.length) × (raster.top ≡ self.top)
+            × (raster.count ≡ self.rows * self.columns) × (raster.count ≤ room)) }
+    {
+        let Header {
+            columns,
+            rows,
+            top,
+            length,
+        } = self;
+        if columns < 1 || columns > 4096 || rows < 1 || rows > 4096 {
+            return Err(Fault::Size(Layer::Pgm));
+        }
+        if top < 1 || top > 65535 {
+            return Err(Fault::Top(Layer::Pgm));
+        }
+        let count = rows as usize * columns as usize;
+        if bytes.len() - length < sample_size(top) * count {
+            return Err(Fault::PgmRaster(bytes.len()));
+        }
+        if room < count {
+            return Err(Fault::OutputShort(Layer::Pgm));
+        }
+        Ok(Raster {
+            bytes,
+            from: length,
+            top,
+            count,
+        })
     }
-    let count = rows as usize * columns as usize;
-    if size - length < sample_size(top) * count {
-        return Some(Fault::PgmRaster(size));
-    }
-    if room < count {
-        return Some(Fault::OutputShort(Layer::Pgm));
-    }
-    None
 }
 
 // Reads the picture of a file, with its samples into the front of the buffer.
 pub fn read_pgm(bytes: &[u8], samples: &mut [u16]) -> Result<Picture, Fault>
     ensures reads_the_picture_or_declines_by_the_table { Reads bytes.now samples.old result samples.new }
 {
-    let header = match read_header(bytes) {
-        Ok(header) => header,
-        Err(byte) => return Err(Fault::PgmHeader(byte)),
-    };
-    if let Some(fault) = size_fault(header, bytes.len(), samples.len()) {
-        return Err(fault);
-    }
+    let header = read_header(bytes).map_err(Fault::PgmHeader)?;
+    let raster = header.raster(bytes, samples.len())?;
+    raster.check()?;
+    raster.copy(samples);
     let Header {
         columns,
         rows,
         top,
-        length,
+        ..
     } = header;
-    let count = rows as usize * columns as usize;
-    if let Some(fault) = sample_fault(bytes, length, top, count) {
-        return Err(fault);
-    }
-    copy_samples(bytes, length, top, count, samples);
     Ok(Picture { columns, rows, top })
 }
 

@@ -109,6 +109,15 @@ mod tests {
     }
 
     #[test]
+    fn a_raster_is_the_front_of_a_buffer(rt: HostRuntime) -> Result<(), Fail> {
+        let mut samples = [7u16; 4];
+        let picture = read_pgm(b"P5 1 3 515 \x00\x01\x02\x03\x01\x00", &mut samples)?;
+        assert_eq!(rt; picture.raster(&samples), [1, 515, 256].as_slice());
+        assert_eq!(rt; picture.raster(&samples[0..2]), [1, 515].as_slice());
+        Ok(())
+    }
+
+    #[test]
     fn faults_in_words(rt: HostRuntime) -> Result<(), Fail> {
         let text = Fault::PgmHeader(3).to_string(rt.alloc())?;
         assert_eq!(rt;

@@ -1,5 +1,5 @@
 // The whole job as one call.
-ghost use Rattle.std.specs.Prelude.{◌≡◌, ◌*◌, ◌≤◌, length, take, IfOk};
+ghost use Rattle.std.specs.Prelude.{◌≡◌, ◌*◌, ◌≤◌, length, IfOk};
 ghost use Rattle.sheet_job.specs.Reports.{plan_of as laid_by, SheetOrFault, Reports};
 
 use crate::laying::lay_and_write;
@@ -25,29 +25,6 @@ const BLANK: Cell = Cell {
     bit: false,
 };
 
-// The first bytes of a file, which the job takes.
-fn front(bytes: &[u8]) -> &[u8]
-    ensures is_the_front { result.now ≡ take 8192 bytes.now }
-{
-    if bytes.len() <= BYTES {
-        bytes
-    } else {
-        &bytes[0..BYTES]
-    }
-}
-
-// The samples of a picture, which stand in the front of the buffer.
-fn raster(samples: &[u16], picture: Picture) -> &[u16]
-    ensures is_the_raster { result.now ≡ take (picture.rows * picture.columns) samples.now }
-{
-    let count = picture.rows as usize * picture.columns as usize;
-    if samples.len() <= count {
-        samples
-    } else {
-        &samples[0..count]
-    }
-}
-
 // How a picture is laid: at two levels.
 fn plan_of(picture: Picture) -> Plan
     ensures is_of_two_levels { result ≡ laid_by picture }
@@ -67,11 +44,11 @@ fn write_picture(bytes: &[u8], out: &mut [u8]) -> Result<usize, Fault>
     ensures is_no_longer_than_the_longest { IfOk result (λ n. n ≤ 47142) }
 {
     let mut samples = [0u16; SAMPLES];
-    let picture = read_pgm(front(bytes), &mut samples)?;
+    let picture = read_pgm(bytes.get(..BYTES).unwrap_or(bytes), &mut samples)?;
     let plan = plan_of(picture);
     let mut records = [BLANK; SAMPLES];
     let store = FlatStore::new(&mut records, plan.rows, plan.columns);
-    lay_and_write(store, plan, raster(&samples, picture), out)
+    lay_and_write(store, plan, picture.raster(&samples), out)
 }
 
 // The text for the bytes of a file: the line of the fault that reading met, or the sheet of the picture.

@@ -1,20 +1,20 @@
 -- Frames and lines that are written part by part.
-use Rattle.std.proofs.Common.{◌≡◌, ℕ, zero, suc, ◌+◌, ◌-◌, ◌*◌, ◌<◌, ◌≤◌, Bool, List, [], ◌∷◌, ◌++◌, length, take, ℤ, IfSome, Some, None, Option, sym, refl, ap, ◌∙◌, subst, append_assoc, append-nil, add-zero, add_assoc, add-one, arith}
-use Rattle.std.specs.Option.{option_to_list}
-use Rattle.std.specs.List.{flat_map}
+use Rattle.std.proofs.Common.{◌≡◌, ℕ, zero, suc, ◌+◌, ◌-◌, ◌*◌, ◌<◌, ◌≤◌, Bool, List, [], ◌∷◌, ◌++◌, length, take, ℤ, sym, refl, ap, ◌∙◌, subst, append_assoc, append-nil, add-zero, add_assoc, add-one, arith}
+use Rattle.std.specs.List.{flat_map, AllByRecursion}
 use Rattle.std.proofs.lemmas.List.{length-append, take_at}
+use Rattle.std.proofs.lemmas.Grind.{flat_map-append}
 use Rattle.planes.specs.Planes.{Cells}
 use Rattle.frames.specs.Frames.{frame_line, over}
 use Rattle.frames.proofs.Over.{over_none, over_next}
 use Rattle.sheets.specs.declared.frame.Head.{Head}
-use Rattle.sheets.specs.declared.runs.Part.{Part}
-use Rattle.sheets.specs.declared.runs.Part.TheVariants.{Out, Inner, Last}
 use Rattle.sheets.specs.declared.runs.Run.{Run}
-use Rattle.sheets.specs.Runs.{Inside, named, changed_cells, cells_from, named_by, part, still_begun, ended, begun_before, row_runs, runs}
+use Rattle.sheets.specs.Runs.{Inside, named, changed_cells, cells_from, named_by, row_runs, runs}
 use Rattle.sheets.specs.Sheets.{head_frame, number_bytes, cell_bytes, run_head, run_frame, run_line, end_frame, run_lines, sheet_text}
-use Rattle.sheets.proofs.Walking.{begun_small, begun_within, begun_more, row_runs_more, runs_more}
-use Rattle.sheets.proofs.Naming.{joined_append, cells_more, cells_none}
-use Rattle.sheets.proofs.Sizes.{length_bytes, length_cells, length_run_frame}
+use Rattle.sheets.proofs.Walking.{runs_more}
+use Rattle.sheets.proofs.Naming.{cells_more, cells_none}
+use Rattle.sheets.specs.Laws.{CutAsRuled}
+use Rattle.sheets.proofs.Only.{all_right}
+use Rattle.sheets.proofs.Sizes.{length_bytes, length_cells, length_run_frame, length_run_line, one_more, all_done}
 
 -- a frame with the head of a run, and then the numbers of its first n cells
 module _ (x : Cells ℤ) (r c : ℕ) where
@@ -27,7 +27,7 @@ module _ (x : Cells ℤ) (r c : ℕ) where
       let so_far = flat_map cell_bytes (cells_from x r c n) in
       (λ i. over (e i) (6 + 4 * n) (f i))
       ∙ over_next was 6 (6 + 4 * n) so_far (number_bytes (x r (c + n))) h (omega (arith, length_bytes (cells_from x r c n), length_cells x r c n))
-      ∙ ap (over was 6) (sym (ap (flat_map cell_bytes) (cells_more x r c n) ∙ joined_append cell_bytes (cells_from x r c n) (named x r (c + n) ∷ [])))
+      ∙ ap (over was 6) (sym (ap (flat_map cell_bytes) (cells_more x r c n) ∙ flat_map-append cell_bytes (cells_from x r c n) (named x r (c + n) ∷ [])))
 
 pub bytes_all : (x : Cells ℤ) (run : Run) (was head frame bytes : List ℕ) (n : ℕ) → n ≡ run.count → 0 ≤ length was → bytes ≡ run_head run → head ≡ over was 0 bytes
     → frame ≡ over head 6 (flat_map cell_bytes (cells_from x run.row run.first n)) → frame ≡ over was 0 (run_frame x run)
@@ -43,93 +43,68 @@ pub front_run : (x : Cells ℤ) (run : Run) (was frame : List ℕ) (n : ℕ) →
 unfolding over
 front_run x run was frame n e f = ap (take n) f ∙ take_at (run_frame x run) _ n (length_run_frame x run ∙ sym e)
 
--- the lines of a run that may have ended
-pub no_lines : (x : Cells ℤ) (o : Option Run) → o ≡ None → run_lines x (option_to_list o) ≡ []
+-- the lines of one run
+one_line : (x : Cells ℤ) (run : Run) → run_lines x (run ∷ []) ≡ run_line x run
 unfolding run_lines
-no_lines x o e = ap (λ z. run_lines x (option_to_list z)) e
-
-pub its_line : (x : Cells ℤ) (o : Option Run) (run : Run) → o ≡ Some run → run_lines x (option_to_list o) ≡ run_line x run
-unfolding run_lines
-its_line x o run e = ap (λ z. run_lines x (option_to_list z)) e ∙ append-nil (run_line x run)
+one_line x run = append-nil (run_line x run)
 
 pub lines_append : (x : Cells ℤ) (rs ss : List Run) → run_lines x (rs ++ ss) ≡ run_lines x rs ++ run_lines x ss
 unfolding run_lines
-lines_append x rs ss = joined_append (run_line x) rs ss
-
--- the line of a run that ended at a column of a row
-ended_inside : (b : ℕ → Bool) (H W r c g : ℕ) (p : Part) → r < H → c < W → g ≤ c → g ≤ 15 → IfSome (ended p r c g) (Inside H W)
-ended_inside b H W r c g Out h k l m = tt
-ended_inside b H W r c g Inner h k l m = tt
-ended_inside b H W r c g Last h k l m = record { in_a_row = h; in_its_columns = omega arith; at_most_sixteen = omega arith }
+lines_append x rs ss = flat_map-append (run_line x) rs ss
 
 -- numbers that never fall
 rising : (f : ℕ → ℕ) → ((n : ℕ) → f n ≤ f (n + 1)) → (n k : ℕ) → f n ≤ f (n + k)
 rising f h n zero = omega (arith, ap f (add-zero n))
 rising f h n (suc k) = omega (arith, rising f h n k, h (n + k), ap f (add_assoc n k 1), ap (λ z. f (n + z)) (add-one k))
 
--- A loop has written the lines of the runs of a row that end before column c.
-pub record Written (x : Cells ℤ) (b : Cells Bool) (C r c : ℕ) (was out : List ℕ) (start at begun : ℕ) : Type 0 where
-  pub begun_is : begun ≡ begun_before (b r) C c
-  pub begun_here : begun ≤ c
-  pub begun_few : begun ≤ 15
-  pub out_is : out ≡ over was start (run_lines x (row_runs (b r) r C c))
-  pub at_is : at ≡ start + length (run_lines x (row_runs (b r) r C c))
+-- A loop has written the lines of all runs but those that are left.
+pub record Written (x : Cells ℤ) (all done left : List Run) (was out : List ℕ) (start at : ℕ) : Type 0 where
+  pub split : done ++ left ≡ all
+  pub out_is : out ≡ over was start (run_lines x done)
+  pub at_is : at ≡ start + length (run_lines x done)
 
-module _ (x : Cells ℤ) (b : Cells Bool) (C r : ℕ) (was : List ℕ) (start : ℕ) where
-  pub written_none : Written x b C r 0 was was start start 0
-  unfolding begun_before row_runs run_lines
-  written_none = record { begun_is = refl; begun_here = omega arith; begun_few = omega arith; out_is = over_none was start; at_is = omega arith }
+module _ (x : Cells ℤ) (all : List Run) (was : List ℕ) (start : ℕ) where
+  pub written_none : (left : List Run) → left ≡ all → Written x all [] left was was start start
+  unfolding run_lines
+  written_none left e = record { split = e; out_is = over_none was start; at_is = omega arith }
 
-  longer : (c : ℕ) → run_lines x (row_runs (b r) r C (c + 1)) ≡ run_lines x (row_runs (b r) r C c) ++ run_lines x (option_to_list (ended (part (begun_before (b r) C c) (b r) C c) r c (begun_before (b r) C c)))
-  longer c = ap (run_lines x) (row_runs_more (b r) r C c) ∙ lines_append x (row_runs (b r) r C c) (option_to_list (ended (part (begun_before (b r) C c) (b r) C c) r c (begun_before (b r) C c)))
+  -- one run more
+  module _ (done left left' : List Run) (run : Run) (at : ℕ) (out : List ℕ) (w : Written x all done left was out start at) (e : left ≡ run ∷ left') where
+    longer : run_lines x (done ++ run ∷ []) ≡ run_lines x done ++ run_line x run
+    longer = lines_append x done (run ∷ []) ∙ ap (λ z. run_lines x done ++ z) (one_line x run)
 
-  -- one column more
-  module _ (c begun at : ℕ) (out : List ℕ) (w : Written x b C r c was out start at begun) (p : Part) (pe : p ≡ part begun (b r) C c) (o : Option Run) (oe : o ≡ ended p r c begun) where
-    last : Option Run
-    last = ended (part (begun_before (b r) C c) (b r) C c) r c (begun_before (b r) C c)
+    length_longer : length (run_lines x (done ++ run ∷ [])) ≡ length (run_lines x done) + (15 + 8 * run.count)
+    length_longer = ap length longer ∙ length-append (run_lines x done) (run_line x run) ∙ ap (λ n. length (run_lines x done) + n) (length_run_line x run)
 
-    p_is : p ≡ part (begun_before (b r) C c) (b r) C c
-    p_is = pe ∙ ap (λ n. part n (b r) C c) w.begun_is
+    pub written_more : start ≤ length was → (out' : List ℕ) (at' : ℕ) → out' ≡ over out at (run_line x run) → at' ≡ at + (15 + 8 * run.count) → Written x all (done ++ run ∷ []) left' was out' start at'
+    written_more h out' at' f k = record {
+      split = one_more all done left left' run w.split e;
+      out_is = f ∙ ap (λ z. over z at (run_line x run)) w.out_is ∙ over_next was start at (run_lines x done) (run_line x run) h w.at_is ∙ ap (over was start) (sym longer);
+      at_is = omega (arith, k, w.at_is, length_longer);
+    }
 
-    lines_are : run_lines x (option_to_list o) ≡ run_lines x (option_to_list (ended (part (begun_before (b r) C c) (b r) C c) r c (begun_before (b r) C c)))
-    lines_are = ap (λ z. run_lines x (option_to_list z)) (oe ∙ (λ i. ended (p_is i) r c (w.begun_is i)))
+    pub room_for_the_run : start + length (run_lines x all) ≤ length was → at + (15 + 8 * run.count) ≤ length was
+    room_for_the_run h =
+        omega (
+          arith,
+          w.at_is,
+          length_longer,
+          ap (λ z. length (run_lines x z)) (one_more all done left left' run w.split e),
+          ap length (lines_append x (done ++ run ∷ []) left'),
+          length-append (run_lines x (done ++ run ∷ [])) (run_lines x left'),
+        )
 
-    length_longer : length (run_lines x (row_runs (b r) r C (c + 1))) ≡ length (run_lines x (row_runs (b r) r C c)) + length (run_lines x (option_to_list o))
-    length_longer = ap length (longer c ∙ ap (λ z. run_lines x (row_runs (b r) r C c) ++ z) (sym lines_are)) ∙ length-append (run_lines x (row_runs (b r) r C c)) (run_lines x (option_to_list o))
+    pub is_one_of_them : (P : Run → Type 0) → AllByRecursion P all → P run
+    is_one_of_them P a = (all_right P done (run ∷ left') (subst (AllByRecursion P) (sym (ap (λ z. done ++ z) (sym e) ∙ w.split)) a)).0
 
-    pub written_more : start ≤ length was → (out' : List ℕ) (at' begun' : ℕ) → out' ≡ over out at (run_lines x (option_to_list o)) → at' ≡ at + length (run_lines x (option_to_list o)) → begun' ≡ still_begun p begun
-        → Written x b C r (c + 1) was out' start at' begun'
-    written_more h out' at' begun' f k l =
-        let begun_is' : begun' ≡ begun_before (b r) C (c + 1) = l ∙ (λ i. still_begun (p_is i) (w.begun_is i)) ∙ sym (begun_more (b r) C c) in
-        record {
-          begun_is = begun_is';
-          begun_here = omega (arith, begun_is', begun_within (b r) C (c + 1));
-          begun_few = omega (arith, begun_is', begun_small (b r) C (c + 1));
-          out_is = f
-              ∙ ap (λ z. over z at (run_lines x (option_to_list o))) w.out_is
-              ∙ over_next was start at (run_lines x (row_runs (b r) r C c)) (run_lines x (option_to_list o)) h w.at_is
-              ∙ ap (λ z. over was start (run_lines x (row_runs (b r) r C c) ++ z)) lines_are
-              ∙ ap (over was start) (sym (longer c));
-          at_is = omega (arith, k, w.at_is, length_longer);
-        }
+  pub written_all : (done left : List Run) (at : ℕ) (out : List ℕ) → Written x all done left was out start at → left ≡ [] → (out ≡ over was start (run_lines x all)) × (at ≡ start + length (run_lines x all))
+  written_all done left at out w e =
+      let d = all_done all done left w.split e in
+      (w.out_is ∙ ap (λ z. over was start (run_lines x z)) d, w.at_is ∙ ap (λ z. start + length (run_lines x z)) d)
 
-    pub room_for_the_run : c < C → start + length (run_lines x (row_runs (b r) r C C)) ≤ length was → at + length (run_lines x (option_to_list o)) ≤ length was
-    room_for_the_run h k =
-        omega (arith, w.at_is, length_longer, rising (λ n. length (run_lines x (row_runs (b r) r C n))) grows (c + 1) (C - (c + 1)), ap (λ n. length (run_lines x (row_runs (b r) r C n))) (to_the_end h))
-      where
-        grows : (n : ℕ) → length (run_lines x (row_runs (b r) r C n)) ≤ length (run_lines x (row_runs (b r) r C (n + 1)))
-        grows n = omega (arith, ap length (longer n), length-append (run_lines x (row_runs (b r) r C n)) (run_lines x (option_to_list (ended (part (begun_before (b r) C n) (b r) C n) r n (begun_before (b r) C n)))))
-
-        to_the_end : c < C → c + 1 + (C - (c + 1)) ≡ C
-        to_the_end h = omega arith
-
-    pub run_inside : (H W : ℕ) → r < H → c < W → IfSome o (Inside H W)
-    run_inside H W h k = subst (λ z. IfSome z (Inside H W)) (sym oe) (ended_inside (b r) H W r c begun p h k w.begun_here w.begun_few)
-
-  pub written_all : (c begun at : ℕ) (out : List ℕ) → c ≡ C → Written x b C r c was out start at begun
-      → (out ≡ over was start (run_lines x (row_runs (b r) r C C))) × (at ≡ start + length (run_lines x (row_runs (b r) r C C)))
-  written_all c begun at out e w =
-      (w.out_is ∙ ap (λ n. over was start (run_lines x (row_runs (b r) r C n))) e, w.at_is ∙ ap (λ n. start + length (run_lines x (row_runs (b r) r C n))) e)
+-- a run of a row lies inside
+pub inside : (b : Cells Bool) (R C : ℕ) (run : Run) → CutAsRuled 16 b R C run → Inside R C run
+inside b R C run h = record { in_a_row = h.in_a_row; in_its_columns = h.in_its_columns; at_most_sixteen = h.not_longer }
 
 -- A loop has written the lines of the first r rows.
 pub record WrittenRows (x : Cells ℤ) (b : Cells Bool) (C r : ℕ) (was out : List ℕ) (start at : ℕ) : Type 0 where
@@ -166,10 +141,9 @@ module _ (x : Cells ℤ) (b : Cells Bool) (C : ℕ) (was : List ℕ) (start : �
     at_is = omega (arith, k, w.at_is, length_row_longer r);
   }
 
-  pub rows_all : (R W r at : ℕ) (out : List ℕ) → r ≡ R → C ≡ W → WrittenRows x b C r was out start at
-      → (out ≡ over was start (run_lines x (runs b R W))) × (at ≡ start + length (run_lines x (runs b R W)))
-  rows_all R W r at out e f w =
-      (w.out_is ∙ (λ i. over was start (run_lines x (runs b (e i) (f i)))), w.at_is ∙ (λ i. start + length (run_lines x (runs b (e i) (f i)))))
+  pub rows_all : (R r at : ℕ) (out : List ℕ) → r ≡ R → WrittenRows x b C r was out start at
+      → (out ≡ over was start (run_lines x (runs b R C))) × (at ≡ start + length (run_lines x (runs b R C)))
+  rows_all R r at out e w = (w.out_is ∙ ap (λ n. over was start (run_lines x (runs b n C))) e, w.at_is ∙ ap (λ n. start + length (run_lines x (runs b n C))) e)
 
 -- A whole sheet: the head's line, the lines of the runs and the end's line, one behind the other.
 pub sheet_written : (h : Head) (R C : ℕ) (x : Cells ℤ) (b : Cells Bool) (was one two three head end : List ℕ) (at next cells : ℕ)

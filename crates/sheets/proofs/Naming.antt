@@ -3,6 +3,7 @@ use Rattle.std.proofs.Common.{◌≡◌, ℕ, zero, suc, ◌+◌, ◌-◌, ◌<�
 use Rattle.std.specs.Option.{option_to_list}
 use Rattle.std.specs.List.{flat_map, AllByRecursion}
 use Rattle.std.proofs.ByRecursion.{All-append}
+use Rattle.std.proofs.lemmas.Grind.{flat_map-append}
 use Rattle.std.proofs.lemmas.Bool.{eqb-true}
 use Rattle.planes.specs.Planes.{Cells}
 use Rattle.sheets.specs.declared.runs.Part.{Part}
@@ -11,10 +12,6 @@ use Rattle.sheets.specs.declared.runs.Run.{Run}
 use Rattle.sheets.specs.Runs.{named, changed_in_row, changed_cells, cells_from, named_by, is_cut, part, still_begun, ended, begun_before, row_runs, runs}
 use Rattle.sheets.specs.Laws.{CutAsRuled, TheRunsNameTheChangedCells}
 use Rattle.sheets.proofs.Walking.{Way, out, inner, last, way, begun_small, begun_within, begun_none, begun_all}
-
-pub joined_append : {X A : Type 0} (f : X → List A) (xs ys : List X) → flat_map f (xs ++ ys) ≡ flat_map f xs ++ flat_map f ys
-joined_append f [] ys = refl
-joined_append f (x ∷ xs) ys = ap (λ q. f x ++ q) (joined_append f xs ys) ∙ sym (append_assoc (f x) (flat_map f xs) (flat_map f ys))
 
 -- one cell more of a run
 pub cells_more : (x : Cells ℤ) (r c n : ℕ) → cells_from x r c (n + 1) ≡ cells_from x r c n ++ (named x r (c + n) ∷ [])
@@ -51,7 +48,7 @@ module _ (x : Cells ℤ) (b : Cells Bool) (C r : ℕ) where
       ∙ ap (λ v. changed_in_row x b r c ++ cond v (named x r c ∷ []) []) (sym e)
   step c g rs Last (last e f) h z q =
       let run : Run = record { row = r; first = c - g; count = g + 1 } in
-      ap (λ z. z ++ cells_from x r (suc c - 0) 0) (joined_append (named_by x) rs (run ∷ []))
+      ap (λ z. z ++ cells_from x r (suc c - 0) 0) (flat_map-append (named_by x) rs (run ∷ []))
       ∙ ap (λ z. (flat_map (named_by x) rs ++ (named_by x run ++ [])) ++ z) (cells_none x r (suc c - 0))
       ∙ append-nil (flat_map (named_by x) rs ++ (named_by x run ++ []))
       ∙ ap (λ z. flat_map (named_by x) rs ++ z) (append-nil (named_by x run) ∙ with_the_next c g h)
@@ -79,7 +76,7 @@ pub runs_name : (x : Cells ℤ) (b : Cells Bool) (R C : ℕ) → flat_map (named
 unfolding runs changed_cells
 runs_name x b zero C = refl
 runs_name x b (suc r) C =
-    joined_append (named_by x) (runs b r C) (row_runs (b r) r C C) ∙ (λ i. runs_name x b r C i ++ row_names x b C r i)
+    flat_map-append (named_by x) (runs b r C) (row_runs (b r) r C C) ∙ (λ i. runs_name x b r C i ++ row_names x b C r i)
 
 -- what cut a run that ended at column c
 ways_to_cut : (b : ℕ → Bool) (C c g : ℕ) → g ≤ c → is_cut g b C c ≡ true → (g + 1 ≡ 16) ⊎ ((c - g + (g + 1) ≡ C) ⊎ (b (c - g + (g + 1)) ≡ false))

@@ -1,20 +1,18 @@
 -- How many runs and cells there are, and how long their lines are.
-use Rattle.std.proofs.Common.{◌≡◌, ℕ, zero, suc, ◌+◌, ◌-◌, ◌*◌, ◌^◌, ◌<◌, ◌≤◌, Bool, true, false, cond, List, [], ◌∷◌, ◌++◌, length, ℤ, Some, None, Option, sym, refl, ap, ◌∙◌, suc-mul, add-one, arith}
-use Rattle.std.specs.Option.{option_to_list}
+use Rattle.std.proofs.Common.{◌≡◌, ℕ, zero, suc, ◌+◌, ◌-◌, ◌*◌, ◌^◌, ◌<◌, ◌≤◌, Bool, true, false, cond, List, [], ◌∷◌, ◌++◌, length, ℤ, sym, refl, ap, ◌∙◌, append_assoc, append-nil, suc-mul, add-one, arith}
 use Rattle.std.specs.List.{flat_map, AllByRecursion}
 use Rattle.std.proofs.lemmas.List.{length-append}
+use Rattle.std.proofs.lemmas.Grind.{flat_map-append}
 use Rattle.planes.specs.Planes.{Cells}
 use Rattle.frames.specs.Frames.{frame_line}
 use Rattle.frames.proofs.Over.{length_line}
 use Rattle.sheets.specs.declared.frame.Head.{Head}
-use Rattle.sheets.specs.declared.runs.Part.{Part}
 use Rattle.sheets.specs.declared.runs.Run.{Run}
 use Rattle.sheets.specs.Runs.{Named, named, changed_in_row, changed_cells, cells_from, named_by, part, still_begun, ended, begun_before, row_runs, runs}
-use Rattle.sheets.specs.Counting.{runs_in, cells_in}
 use Rattle.sheets.specs.Sheets.{head_frame, cell_bytes, run_head, run_frame, run_line, end_frame, run_lines, sheet_text}
 use Rattle.sheets.specs.Laws.{CutAsRuled, ASheetHas}
-use Rattle.sheets.proofs.Walking.{begun_small, begun_within, begun_more, row_runs_more, runs_more}
-use Rattle.sheets.proofs.Naming.{joined_append, row_so_far, row_names, runs_name, row_cut, the_runs_name}
+use Rattle.sheets.proofs.Walking.{runs_more}
+use Rattle.sheets.proofs.Naming.{row_names, runs_name, row_cut, the_runs_name}
 
 pub length_cells : (x : Cells ℤ) (r c n : ℕ) → length (cells_from x r c n) ≡ n
 unfolding cells_from
@@ -87,80 +85,55 @@ length_sheet h R C x b = length_parts h R C x b ∙ omega (arith, length_all_lin
 pub length_at_most : (h : Head) (R C : ℕ) (x : Cells ℤ) (b : Cells Bool) → length (sheet_text h R C x b) ≤ 38 + 23 * (R * C)
 length_at_most h R C x b = omega (arith, length_sheet h R C x b, runs_at_most x b R C, cells_at_most x b R C)
 
--- one run more, or none
-runs_in_length : (o : Option Run) → length (option_to_list o) ≡ runs_in o
-runs_in_length None = refl
-runs_in_length (Some run) = refl
+-- a loop over runs, of which some are done and some are left
+pub one_more : (all done left left' : List Run) (run : Run) → done ++ left ≡ all → left ≡ run ∷ left' → (done ++ run ∷ []) ++ left' ≡ all
+one_more all done left left' run s e = append_assoc done (run ∷ []) left' ∙ ap (λ z. done ++ z) (sym e) ∙ s
 
-cells_in_length : (x : Cells ℤ) (o : Option Run) → length (flat_map (named_by x) (option_to_list o)) ≡ cells_in o
-cells_in_length x None = refl
-cells_in_length x (Some run) = length-append (named_by x run) [] ∙ omega (arith, length_cells x run.row run.first run.count)
+pub all_done : (all done left : List Run) → done ++ left ≡ all → left ≡ [] → done ≡ all
+all_done all done left s e = sym (append-nil done) ∙ ap (λ z. done ++ z) (sym e) ∙ s
 
--- A loop along row r has passed c columns: so many runs ended, with so many cells, and so many cells lie in a run that goes on.
-pub record Passed (x : Cells ℤ) (b : Cells Bool) (C r c : ℕ) (begun runs cells : ℕ) : Type 0 where
-  pub begun_is : begun ≡ begun_before (b r) C c
-  pub runs_are : runs ≡ length (row_runs (b r) r C c)
-  pub cells_are : cells ≡ length (flat_map (named_by x) (row_runs (b r) r C c))
-  pub begun_here : begun ≤ c
-  pub begun_few : begun ≤ 15
-  pub runs_few : runs ≤ c
-  pub cells_few : cells ≤ c
+-- A loop has counted all runs but those that are left.
+pub record Counted (x : Cells ℤ) (all done left : List Run) (runs cells : ℕ) : Type 0 where
+  pub split : done ++ left ≡ all
+  pub runs_are : runs ≡ length done
+  pub cells_are : cells ≡ length (flat_map (named_by x) done)
 
-module _ (x : Cells ℤ) (b : Cells Bool) (C r : ℕ) where
-  cells_passed : (c : ℕ) → length (flat_map (named_by x) (row_runs (b r) r C c)) ≤ c
-  cells_passed c =
-      omega (
-        arith,
-        ap length (row_so_far x b C r c),
-        length-append (flat_map (named_by x) (row_runs (b r) r C c)) (cells_from x r (c - begun_before (b r) C c) (begun_before (b r) C c)),
-        changed_at_most x b r c,
-      )
-
-  runs_passed : (c : ℕ) → c ≤ C → length (row_runs (b r) r C c) ≤ length (flat_map (named_by x) (row_runs (b r) r C c))
-  runs_passed c h = few_runs x b (suc r) C (row_runs (b r) r C c) (row_cut b (suc r) C r (omega arith) c h)
-
-  passed : (c begun runs cells : ℕ) → c ≤ C → begun ≡ begun_before (b r) C c → runs ≡ length (row_runs (b r) r C c) → cells ≡ length (flat_map (named_by x) (row_runs (b r) r C c)) → Passed x b C r c begun runs cells
-  passed c begun runs cells h e f k = record {
-    begun_is = e;
-    runs_are = f;
-    cells_are = k;
-    begun_here = omega (arith, begun_within (b r) C c);
-    begun_few = omega (arith, begun_small (b r) C c);
-    runs_few = omega (arith, runs_passed c h, cells_passed c);
-    cells_few = omega (arith, cells_passed c);
+module _ (x : Cells ℤ) (all : List Run) where
+  -- one run more
+  pub counted_more : (done left left' : List Run) (run : Run) (runs cells runs' cells' : ℕ) → Counted x all done left runs cells → left ≡ run ∷ left'
+      → runs' ≡ runs + 1 → cells' ≡ cells + run.count → Counted x all (done ++ run ∷ []) left' runs' cells'
+  counted_more done left left' run runs cells runs' cells' p e f k = record {
+    split = one_more all done left left' run p.split e;
+    runs_are = omega (arith, f, p.runs_are, length-append done (run ∷ []));
+    cells_are = omega (
+      arith,
+      k,
+      p.cells_are,
+      ap length (flat_map-append (named_by x) done (run ∷ [])),
+      length-append (flat_map (named_by x) done) (named_by x run ++ []),
+      length-append (named_by x run) [],
+      length_cells x run.row run.first run.count,
+    );
   }
 
-  pub passed_none : Passed x b C r 0 0 0 0
-  unfolding begun_before row_runs
-  passed_none = passed 0 0 0 0 (omega arith) refl refl refl
+-- and those of a row are few
+module _ (x : Cells ℤ) (b : Cells Bool) (C r : ℕ) (done left : List Run) (runs cells : ℕ) (p : Counted x (row_runs (b r) r C C) done left runs cells) where
+  pub counted_few : (runs ≤ C) × (cells ≤ C)
+  counted_few =
+      let all = row_runs (b r) r C C in
+      let runs_few : length all ≤ length (flat_map (named_by x) all) = few_runs x b (suc r) C all (row_cut b (suc r) C r (omega arith) C (omega arith)) in
+      let cells_few : length (flat_map (named_by x) all) ≤ C = omega (arith, ap length (row_names x b C r), changed_at_most x b r C) in
+      let runs_all : length all ≡ length done + length left = ap length (sym p.split) ∙ length-append done left in
+      let cells_all : length (flat_map (named_by x) all) ≡ length (flat_map (named_by x) done) + length (flat_map (named_by x) left) =
+      ap (λ z. length (flat_map (named_by x) z)) (sym p.split) ∙ ap length (flat_map-append (named_by x) done left) ∙ length-append (flat_map (named_by x) done) (flat_map (named_by x) left) in
+      (omega (arith, p.runs_are), omega (arith, p.cells_are))
 
-  -- one column more
-  pub passed_more : (c begun runs cells : ℕ) → c < C → Passed x b C r c begun runs cells → (p : Part) → p ≡ part begun (b r) C c → (o : Option Run) → o ≡ ended p r c begun
-      → (begun' runs' cells' : ℕ) → begun' ≡ still_begun p begun → runs' ≡ runs + runs_in o → cells' ≡ cells + cells_in o → Passed x b C r (c + 1) begun' runs' cells'
-  passed_more c begun runs cells h q p pe o oe begun' runs' cells' be re ce =
-      let g = begun_before (b r) C c in
-      let e : begun ≡ g = q.begun_is in
-      let p_is : p ≡ part g (b r) C c = pe ∙ ap (λ n. part n (b r) C c) e in
-      let last = ended (part g (b r) C c) r c g in
-      let o_is : o ≡ last = oe ∙ (λ i. ended (p_is i) r c (e i)) in
-      passed (c + 1) begun' runs' cells' (omega arith)
-      (be ∙ (λ i. still_begun (p_is i) (e i)) ∙ sym (begun_more (b r) C c))
-      (omega (arith, q.runs_are, ap runs_in o_is, ap length (row_runs_more (b r) r C c), length-append (row_runs (b r) r C c) (option_to_list last), runs_in_length last))
-      (omega (
-        arith,
-        q.cells_are,
-        ap cells_in o_is,
-        ap (λ z. length (flat_map (named_by x) z)) (row_runs_more (b r) r C c),
-        ap length (joined_append (named_by x) (row_runs (b r) r C c) (option_to_list last)),
-        length-append (flat_map (named_by x) (row_runs (b r) r C c)) (flat_map (named_by x) (option_to_list last)),
-        cells_in_length x last,
-      ))
+  pub counted_all : left ≡ [] → (runs ≡ length (row_runs (b r) r C C)) × (cells ≡ length (changed_in_row x b r C))
+  counted_all e =
+      let all : done ≡ row_runs (b r) r C C = all_done (row_runs (b r) r C C) done left p.split e in
+      (p.runs_are ∙ ap length all, p.cells_are ∙ ap (λ z. length (flat_map (named_by x) z)) all ∙ ap length (row_names x b C r))
 
-  pub passed_all : (c begun runs cells : ℕ) → c ≡ C → Passed x b C r c begun runs cells → (runs ≡ length (row_runs (b r) r C C)) × (cells ≡ length (changed_in_row x b r C))
-  passed_all c begun runs cells e p =
-      (p.runs_are ∙ ap (λ n. length (row_runs (b r) r C n)) e, p.cells_are ∙ ap (λ n. length (flat_map (named_by x) (row_runs (b r) r C n))) e ∙ ap length (row_names x b C r))
-
--- So many rows are passed, none of more than 2^64 − 1 columns.
+-- So many rows are passed, none of more than 2^64 − 1 runs or cells.
 pub record PassedRows (x : Cells ℤ) (b : Cells Bool) (C r runs cells : ℕ) : Type 0 where
   pub runs_are : runs ≡ length (Rattle.sheets.specs.Runs.runs b r C)
   pub cells_are : cells ≡ length (changed_cells x b r C)
@@ -172,19 +145,13 @@ module _ (x : Cells ℤ) (b : Cells Bool) (C : ℕ) where
   unfolding runs changed_cells
   rows_none = record { runs_are = refl; cells_are = refl; runs_few = omega arith; cells_few = omega arith }
 
-  pub few_in_a_row : (r m n : ℕ) → C < 2 ^ 64 → m ≡ length (row_runs (b r) r C C) → n ≡ length (changed_in_row x b r C) → (m < 2 ^ 64) × (n < 2 ^ 64)
-  few_in_a_row r m n h e f =
-      (omega (arith, runs_passed x b C r C (omega arith), cells_passed x b C r C), omega (arith, changed_at_most x b r C))
+  pub rows_more : (r k l m n : ℕ) → PassedRows x b C r k l → m ≡ length (row_runs (b r) r C C) → n ≡ length (changed_in_row x b r C) → m < 2 ^ 64 → n < 2 ^ 64 → PassedRows x b C (r + 1) (k + m) (l + n)
+  rows_more r k l m n p e f few_runs few_cells = record {
+    runs_are = omega (arith, p.runs_are, ap length (runs_more b C r), length-append (runs b r C) (row_runs (b r) r C C));
+    cells_are = omega (arith, p.cells_are, ap length (changed_more x b C r), length-append (changed_cells x b r C) (changed_in_row x b r C));
+    runs_few = omega (arith, p.runs_few, few_runs);
+    cells_few = omega (arith, p.cells_few, few_cells);
+  }
 
-  pub rows_more : (r k l m n : ℕ) → C < 2 ^ 64 → PassedRows x b C r k l → m ≡ length (row_runs (b r) r C C) → n ≡ length (changed_in_row x b r C) → PassedRows x b C (r + 1) (k + m) (l + n)
-  rows_more r k l m n h p e f =
-      let few = few_in_a_row r m n h e f in
-      record {
-        runs_are = omega (arith, p.runs_are, ap length (runs_more b C r), length-append (runs b r C) (row_runs (b r) r C C));
-        cells_are = omega (arith, p.cells_are, ap length (changed_more x b C r), length-append (changed_cells x b r C) (changed_in_row x b r C));
-        runs_few = omega (arith, p.runs_few, few.0);
-        cells_few = omega (arith, p.cells_few, few.1);
-      }
-
-  pub rows_all : (R W r k l : ℕ) → r ≡ R → C ≡ W → PassedRows x b C r k l → (k ≡ length (runs b R W)) × (l ≡ length (changed_cells x b R W))
-  rows_all R W r k l e f p = (p.runs_are ∙ (λ i. length (runs b (e i) (f i))), p.cells_are ∙ (λ i. length (changed_cells x b (e i) (f i))))
+  pub rows_all : (R r k l : ℕ) → r ≡ R → PassedRows x b C r k l → (k ≡ length (runs b R C)) × (l ≡ length (changed_cells x b R C))
+  rows_all R r k l e p = (p.runs_are ∙ ap (λ n. length (runs b n C)) e, p.cells_are ∙ ap (λ n. length (changed_cells x b n C)) e)

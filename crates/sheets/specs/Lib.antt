@@ -1,4 +1,3 @@
 pub mod Runs
-pub mod Counting
 pub mod Sheets
 pub mod Laws

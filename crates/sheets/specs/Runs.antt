@@ -68,6 +68,14 @@ unfoldable pub row_runs : (ℕ → Bool) → ℕ → ℕ → ℕ → List Run
 row_runs b r C zero = []
 row_runs b r C (suc c) = row_runs b r C c ++ option_to_list (ended (part (begun_before b C c) b C c) r c (begun_before b C c))
 
+-- Those that end at column c or at one of the n - 1 behind it, and those that end at c or at any behind it.
+unfoldable pub runs_from : (ℕ → Bool) → ℕ → ℕ → ℕ → ℕ → List Run
+runs_from b r C c zero = []
+runs_from b r C c (suc n) = option_to_list (ended (part (begun_before b C c) b C c) r c (begun_before b C c)) ++ runs_from b r C (c + 1) n
+
+abbrev pub runs_left : Cells Bool → ℕ → ℕ → ℕ → List Run
+runs_left b r C c = runs_from (b r) r C c (C - c)
+
 -- The runs of the first rows, of C columns each.
 unfoldable pub runs : Cells Bool → ℕ → ℕ → List Run
 runs b zero C = []

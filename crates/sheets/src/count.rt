@@ -1,10 +1,9 @@
 // How many runs and cells a sheet has.
 ghost use Rattle.std.specs.Prelude.{◌≡◌, ◌+◌, ◌*◌, ◌^◌, ◌<◌, length, nat_le};
 ghost use Rattle.sheets.specs.Runs.{changed_in_row, row_runs, runs as runs_of};
-ghost use Rattle.sheets.specs.Counting.{runs_in, cells_in};
 ghost use Rattle.sheets.specs.Sheets.{changed_of};
 
-use crate::runs::{Run, part_at};
+use crate::runs::{Run, Runs};
 use planes::plane::{Plane, Store};
 
 #[derive(Clone, Copy)]
@@ -16,19 +15,16 @@ pub struct Counts {
 impl Counts {
     const NONE: Counts = Counts { runs: 0, cells: 0 };
 
-    // With one run more, if there is one.
-    fn with(self, ended: Option<Run>) -> Counts
+    // With one run more.
+    fn with(self, run: Run) -> Counts
         requires runs { self.runs < 2 ^ 64 }
         requires cells { self.cells < 2 ^ 64 }
-        ensures counts_the_run { result.runs ≡ self.runs + runs_in ended }
-        ensures counts_its_cells { result.cells ≡ self.cells + cells_in ended }
+        ensures counts_the_run { result.runs ≡ self.runs + 1 }
+        ensures counts_its_cells { result.cells ≡ self.cells + run.count }
     {
-        match ended {
-            Some(run) => Counts {
-                runs: self.runs + 1,
-                cells: self.cells + run.count as u128,
-            },
-            None => self,
+        Counts {
+            runs: self.runs + 1,
+            cells: self.cells + run.count as u128,
         }
     }
 
@@ -42,18 +38,16 @@ impl Counts {
 }
 
 // The runs and the cells of one row.
-fn count_row<S: Store>(store: &S, row: usize, columns: usize) -> Counts
-    requires a_row { row < (S.Plane.picture store.now).height }
-    requires all_columns { columns ≡ (S.Plane.picture store.now).width }
-    ensures counts_the_runs { result.runs ≡ length (row_runs (S.Store.bits store.now row) row columns columns) }
-    ensures counts_the_cells { result.cells ≡ length (changed_in_row (S.Plane.picture store.now).number (S.Store.bits store.now) row columns) }
+fn count_row<S: Store>(store: &S, row: usize) -> Counts
+    requires { row < (S.Plane.picture store.now).height }
+    ensures counts_the_runs { result.runs ≡ length (row_runs (S.Store.bits store.now row) row (S.Plane.picture store.now).width (S.Plane.picture store.now).width) }
+    ensures counts_the_cells { result.cells ≡ length (changed_in_row (S.Plane.picture store.now).number (S.Store.bits store.now) row (S.Plane.picture store.now).width) }
+    ensures has_few_runs { result.runs < 2 ^ 64 }
+    ensures has_few_cells { result.cells < 2 ^ 64 }
 {
     let mut counts = Counts::NONE;
-    let mut begun = 0;
-    for column in 0..columns {
-        let part = part_at(store, row, columns, column, begun);
-        counts = counts.with(part.ended(row, column, begun));
-        begun = part.still_begun(begun);
+    for run in Runs::of(store, row) {
+        counts = counts.with(run);
     }
     counts
 }
@@ -63,10 +57,9 @@ pub(crate) fn count_rows<S: Store>(store: &S) -> Counts
     ensures counts_the_runs { result.runs ≡ length (runs_of (S.Store.bits store.now) (S.Plane.picture store.now).height (S.Plane.picture store.now).width) }
     ensures counts_the_cells { result.cells ≡ length (changed_of S.Plane S.Store.own store.now) }
 {
-    let columns = store.columns();
     let mut counts = Counts::NONE;
     for row in 0..store.rows() {
-        let more = count_row(store, row, columns);
+        let more = count_row(store, row);
         counts = Counts {
             runs: counts.runs + more.runs,
             cells: counts.cells + more.cells,

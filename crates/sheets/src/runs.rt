@@ -1,8 +1,9 @@
 // The runs of a row: cells next to each other whose bits are set, at most 16.
-ghost use Rattle.std.specs.Prelude.{◌≡◌, ◌+◌, ◌<◌, ◌≤◌};
-ghost use Rattle.sheets.specs.Runs.{is_cut as cut, part, still_begun, ended as run_ended};
+ghost use Rattle.std.specs.Prelude.{◌≡◌, ◌+◌, ◌^◌, ◌<◌, ◌≤◌, ◌++◌};
+ghost use Rattle.std.specs.Option.{option_to_list};
+ghost use Rattle.sheets.specs.Runs.{is_cut as cut, part as part_of, still_begun, ended as run_ended, begun_before, row_runs, runs_left};
 
-use planes::plane::Store;
+use planes::plane::{Plane, Store};
 
 // A run of cells of one row: its first column, and how many there are.
 #[derive(Clone, Copy)]
@@ -20,50 +21,9 @@ pub enum Part {
     Last,
 }
 
-// The bit of a place inside.
-fn bit_at<S: Store>(store: &S, row: usize, column: usize) -> bool
-    requires a_row { row < (S.Plane.picture store.now).height }
-    requires a_column { column < (S.Plane.picture store.now).width }
-    ensures is_the_bit { result ≡ S.Store.bits store.now row column }
-{
-    store.bit(row, column).unwrap()
-}
-
-// Whether a run with `begun` cells before a column is cut behind that column.
-fn is_cut<S: Store>(store: &S, row: usize, columns: usize, column: usize, begun: usize) -> bool
-    requires a_row { row < (S.Plane.picture store.now).height }
-    requires all_columns { columns ≡ (S.Plane.picture store.now).width }
-    requires a_column { column < columns }
-    ensures is_cut_as_ruled { result ≡ cut begun (S.Store.bits store.now row) columns column }
-{
-    begun == 15 || column + 1 == columns || !bit_at(store, row, column + 1)
-}
-
-// What the cell at a column is to the runs of its row, where `begun` cells of a run lie before it.
-pub(crate) fn part_at<S: Store>(
-    store: &S,
-    row: usize,
-    columns: usize,
-    column: usize,
-    begun: usize,
-) -> Part
-    requires a_row { row < (S.Plane.picture store.now).height }
-    requires all_columns { columns ≡ (S.Plane.picture store.now).width }
-    requires a_column { column < columns }
-    ensures is_its_part { result ≡ part begun (S.Store.bits store.now row) columns column }
-{
-    if !bit_at(store, row, column) {
-        Part::Out
-    } else if is_cut(store, row, columns, column, begun) {
-        Part::Last
-    } else {
-        Part::Inner
-    }
-}
-
 impl Part {
     // How many cells of a run lie before the next column.
-    pub(crate) fn still_begun(self, begun: usize) -> usize
+    fn still_begun(self, begun: usize) -> usize
         requires { begun ≤ 15 }
         ensures is_one_more_inside_a_run { result ≡ still_begun self begun }
     {
@@ -74,7 +34,7 @@ impl Part {
     }
 
     // The run that ends at a cell, if one does.
-    pub(crate) fn ended(self, row: usize, column: usize, begun: usize) -> Option<Run>
+    fn ended(self, row: usize, column: usize, begun: usize) -> Option<Run>
         requires in_the_row { begun ≤ column }
         requires a_few { begun ≤ 15 }
         ensures is_the_run_that_ends_here { result ≡ run_ended self row column begun }
@@ -87,5 +47,103 @@ impl Part {
             }),
             Part::Out | Part::Inner => None,
         }
+    }
+}
+
+// The runs of a row of a store, from left to right. Left are those that end at `column` or behind it; before it lie `begun` cells of a run that
+// goes on, or none.
+#[derive(Drop)]
+pub(crate) struct Runs<'a, S: Store> {
+    store: &'a S,
+    row: usize,
+    columns: usize,
+    column: usize,
+    begun: usize,
+    ghost a_row: { row < (S.Plane.picture store.now).height },
+    ghost all_columns: { columns ≡ (S.Plane.picture store.now).width },
+    ghost in_the_row: { column ≤ columns },
+    ghost so_many_begun: { begun ≡ begun_before (S.Store.bits store.now row) columns column },
+}
+
+impl<'a, S: Store> Runs<'a, S> {
+    // All runs of a row.
+    pub(crate) fn of(store: &'a S, row: usize) -> Runs<'a, S>
+        requires { row < (S.Plane.picture store.now).height }
+        ensures are_the_rows_runs { runs_left (S.Store.bits result.store.now) result.row result.columns result.column
+            ≡ row_runs (S.Store.bits store.now row) row (S.Plane.picture store.now).width (S.Plane.picture store.now).width }
+        ensures has_its_columns { (S.Plane.picture store.now).width < 2 ^ 64 }
+    {
+        Runs {
+            store,
+            row,
+            columns: store.columns(),
+            column: 0,
+            begun: 0,
+        }
+    }
+
+    // The bit of a place of the row.
+    fn bit(&self, column: usize) -> bool
+        requires { column < self.now.columns }
+        ensures is_the_bit { result ≡ S.Store.bits self.now.store.now self.now.row column }
+    {
+        self.store.bit(self.row, column).unwrap()
+    }
+
+    // Whether the run at the column is cut behind it.
+    fn is_cut(&self) -> bool
+        requires { self.now.column < self.now.columns }
+        ensures is_cut_as_ruled { result ≡ cut self.now.begun (S.Store.bits self.now.store.now self.now.row) self.now.columns self.now.column }
+    {
+        self.begun == 15 || self.column + 1 == self.columns || !self.bit(self.column + 1)
+    }
+
+    // What the cell at the column is to the runs of the row.
+    fn part(&self) -> Part
+        requires { self.now.column < self.now.columns }
+        ensures is_its_part { result ≡ part_of self.now.begun (S.Store.bits self.now.store.now self.now.row) self.now.columns self.now.column }
+    {
+        if !self.bit(self.column) {
+            Part::Out
+        } else if self.is_cut() {
+            Part::Last
+        } else {
+            Part::Inner
+        }
+    }
+
+    // Passes the cell at the column, and answers the run that ends there, if one does.
+    fn pass(&mut self) -> Option<Run>
+        requires { self.old.column < self.old.columns }
+        ensures answers_what_ended { runs_left (S.Store.bits self.old.store.now) self.old.row self.old.columns self.old.column
+            ≡ option_to_list result ++ runs_left (S.Store.bits self.new.store.now) self.new.row self.new.columns self.new.column }
+        ensures passes_one_column { self.new.column ≡ self.old.column + 1 }
+        ensures keeps_the_columns { self.new.columns ≡ self.old.columns }
+    {
+        let part = self.part();
+        let ended = part.ended(self.row, self.column, self.begun);
+        self.begun = part.still_begun(self.begun);
+        self.column += 1;
+        ended
+    }
+}
+
+impl<'a, S: Store> Iterator for Runs<'a, S> {
+    ghost use Rattle.std.specs.Iterator.{YieldsFirst, item_count};
+
+    type Item = Run;
+
+    ghost next_gives = { YieldsFirst (λ s. runs_left (S.Store.bits s.store.now) s.row s.columns s.column) };
+
+    ghost remaining = { item_count (λ s. runs_left (S.Store.bits s.store.now) s.row s.columns s.column) };
+
+    fn next(&mut self) -> Option<Run> {
+        while self.column < self.columns {
+            let ended = self.pass();
+            if ended.is_some() {
+                return ended;
+            }
+        }
+        None
     }
 }

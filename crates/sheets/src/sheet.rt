@@ -1,14 +1,13 @@
 // Writing a sheet.
 ghost use Rattle.std.specs.Prelude.{◌≡◌, ◌+◌, ◌*◌, ◌^◌, ◌<◌, ◌≤◌, length, IfSome};
-ghost use Rattle.std.specs.Option.{option_to_list};
 ghost use Rattle.frames.specs.Frames.{over, frame_line};
 ghost use Rattle.sheets.specs.Runs.{Inside};
 ghost use Rattle.sheets.specs.declared.frame.Head.{Head};
-ghost use Rattle.sheets.specs.Sheets.{run_line, run_lines, changed_of, row_lines, all_lines, sheet_of, HasRoom, Writes};
+ghost use Rattle.sheets.specs.Sheets.{run_line, changed_of, row_lines, all_lines, sheet_of, HasRoom, Writes};
 
 use crate::count::count_rows;
 use crate::frame::{Head, end_frame, fill_frame};
-use crate::runs::{Run, part_at};
+use crate::runs::{Run, Runs};
 use frames::write_line;
 use planes::plane::{Plane, Store};
 
@@ -34,34 +33,16 @@ fn write_run<S: Store>(store: &S, run: Run, out: &mut [u8], at: usize) -> usize
     put_line(out, at, &frame[0..6 + 4 * run.count])
 }
 
-// Writes the line of the run that ended, if one did, and answers where it ends.
-fn write_ended<S: Store>(store: &S, ended: Option<Run>, out: &mut [u8], at: usize) -> usize
-    requires inside { IfSome ended (Inside (S.Plane.picture store.now).height (S.Plane.picture store.now).width) }
-    requires its_columns { (S.Plane.picture store.now).width < 2 ^ 64 }
-    requires room { at + length (run_lines (S.Plane.picture store.now).number (option_to_list ended)) ≤ length out.old }
-    ensures writes_its_line { out.new ≡ over out.old at (run_lines (S.Plane.picture store.now).number (option_to_list ended)) }
-    ensures answers_its_end { result ≡ at + length (run_lines (S.Plane.picture store.now).number (option_to_list ended)) }
-{
-    match ended {
-        Some(run) => write_run(store, run, out, at),
-        None => at,
-    }
-}
-
 // Writes the lines of a row's runs, which are known to have room, and answers where they end.
-fn write_row<S: Store>(store: &S, row: usize, columns: usize, out: &mut [u8], start: usize) -> usize
+fn write_row<S: Store>(store: &S, row: usize, out: &mut [u8], start: usize) -> usize
     requires a_row { row < (S.Plane.picture store.now).height }
-    requires all_columns { columns ≡ (S.Plane.picture store.now).width }
-    requires room { start + length (row_lines S.Plane S.Store.own store.now row columns) ≤ length out.old }
-    ensures writes_the_rows_lines { out.new ≡ over out.old start (row_lines S.Plane S.Store.own store.now row columns) }
-    ensures answers_their_end { result ≡ start + length (row_lines S.Plane S.Store.own store.now row columns) }
+    requires room { start + length (row_lines S.Plane S.Store.own store.now row (S.Plane.picture store.now).width) ≤ length out.old }
+    ensures writes_the_rows_lines { out.new ≡ over out.old start (row_lines S.Plane S.Store.own store.now row (S.Plane.picture store.now).width) }
+    ensures answers_their_end { result ≡ start + length (row_lines S.Plane S.Store.own store.now row (S.Plane.picture store.now).width) }
 {
     let mut at = start;
-    let mut begun = 0;
-    for column in 0..columns {
-        let part = part_at(store, row, columns, column, begun);
-        at = write_ended(store, part.ended(row, column, begun), out, at);
-        begun = part.still_begun(begun);
+    for run in Runs::of(store, row) {
+        at = write_run(store, run, out, at);
     }
     at
 }
@@ -72,10 +53,9 @@ fn write_rows<S: Store>(store: &S, out: &mut [u8], start: usize) -> usize
     ensures writes_the_lines { out.new ≡ over out.old start (all_lines S.Plane S.Store.own store.now) }
     ensures answers_their_end { result ≡ start + length (all_lines S.Plane S.Store.own store.now) }
 {
-    let columns = store.columns();
     let mut at = start;
     for row in 0..store.rows() {
-        at = write_row(store, row, columns, out, at);
+        at = write_row(store, row, out, at);
     }
     at
 }

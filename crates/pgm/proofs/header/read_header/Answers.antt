@@ -1,7 +1,7 @@
 -- Each way out of the header's reader, by what its numbers say.
-use Rattle.std.proofs.Common.{get_or, inl, inr, ⊎_elim, arith}
+use Rattle.std.proofs.Common.{length, get_or, ap, inl, inr, ⊎_elim, arith}
 use Rattle.pgm.proofs.Rests.{class_blank, class_not_blank}
-use Rattle.pgm.proofs.Stages.{fail_1, fail_2, fail_3, fail_4, accepts, more}
+use Rattle.pgm.proofs.Stages.{fail_1, fail_2, fail_3, fail_4, accepts}
 use Rattle.pgm.proofs.header.read_header.Goals as goal
 
 pub returns-in_default : goal.returns-in_default
@@ -25,7 +25,7 @@ returns-in_default-number-2 c = record {
 pub returns-in-Blank : goal.returns-in-Blank
 returns-in-Blank c = record {
   is_the_header_or_where_it_ends = (
-    omega arith,
+    omega (arith, c.in-Some-number-2.ensures.stops_at_a_byte, ap length c.number.ensures.keeps_the_bytes, ap length c.number-2.ensures.keeps_the_bytes),
     accepts c.args.bytes.now c.in-Some.columns c.number.new.self.at c.in-Some.ensures.scans_a_number
         c.number.new.self.bytes.now c.number.ensures.keeps_the_bytes c.in-Some-number.rows c.number-2.new.self.at c.in-Some-number.ensures.scans_a_number
         c.number-2.new.self.bytes.now c.number-2.ensures.keeps_the_bytes c.in-Some-number-2.top c.number-3.new.self.at c.in-Some-number-2.ensures.scans_a_number
@@ -41,13 +41,3 @@ returns-in_default-class_of c = record {
       c.number-2.new.self.bytes.now c.number-2.ensures.keeps_the_bytes c.in-Some-number-2.top c.number-3.new.self.at c.in-Some-number-2.ensures.scans_a_number
       (class_not_blank (get_or c.args.bytes.now c.number-3.new.self.at 0) c.class_of.result c.class_of.ensures.is_the_class c.in_default-class_of.not-Newline c.in_default-class_of.not-Blank);
 }
-
--- after a number there is a byte
-pub returns-else-at-bytes : goal.returns-else-at-bytes
-returns-else-at-bytes c =
-    absurd (omega (
-      arith,
-      more c.args.bytes.now c.in-Some.columns c.number.new.self.at c.in-Some.ensures.scans_a_number
-          c.number.new.self.bytes.now c.number.ensures.keeps_the_bytes c.in-Some-number.rows c.number-2.new.self.at c.in-Some-number.ensures.scans_a_number
-          c.number-2.new.self.bytes.now c.number-2.ensures.keeps_the_bytes c.in-Some-number-2.top c.number-3.new.self.at c.in-Some-number-2.ensures.scans_a_number,
-    ))

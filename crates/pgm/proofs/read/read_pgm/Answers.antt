@@ -1,48 +1,51 @@
 -- Each way out of the reading, as a case of its statement.
-use Rattle.std.proofs.Common.{◌*◌, [], ◌∷◌, length, sym, ◌∙◌}
-use Rattle.std.proofs.lemmas.Nat.{mul-le}
-use Rattle.faults.proofs.FirstFault.{first_in_front, first_behind}
-use Rattle.pgm.specs.Reading.{no_header, declined, taken, size_checks, sample_check}
+use Rattle.std.proofs.Common.{length, sym, ◌∙◌}
+use Rattle.std.proofs.lemmas.Result.{err_from_is_err_and, MatchResult-at_ok, MatchResult-at_err}
+use Rattle.faults.specs.declared.fault.Fault.TheVariants.{PgmHeader}
+use Rattle.pgm.specs.Reading.{taken}
+use Rattle.pgm.proofs.Mapped.{mapped}
+use Rattle.pgm.proofs.Cases.{without_header, by_the_table, by_its_sizes, by_its_samples, filled}
 use Rattle.pgm.proofs.read.read_pgm.Goals as goal
 
-pub returns-in-Err : goal.returns-in-Err
-returns-in-Err c = record { reads_the_picture_or_declines_by_the_table = no_header c.in-Err.byte c.in-Err.ensures.is_the_header_or_where_it_ends }
+pub returns-in_err-header : goal.returns-in_err-header
+returns-in_err-header c =
+    let p = err_from_is_err_and c.from_residual.result c.from_residual.ensures.1 in
+    let m = mapped PgmHeader _ _ c.read_header.result c.map_err.result c.read_header.ensures.is_the_header_or_where_it_ends c.map_err.ensures.cases in
+    record { reads_the_picture_or_declines_by_the_table = without_header p.1 p.2 (MatchResult-at_err _ _ _ c.in_err-header.was m) }
 
-pub returns-in-Some : goal.returns-in-Some
-returns-in-Some c =
-    let h = c.in-Ok.header in
-    let xs = c.args.bytes.now in
+pub returns-in_err-raster : goal.returns-in_err-raster
+returns-in_err-raster c =
+    let p = err_from_is_err_and c.from_residual-in_err-raster.result c.from_residual-in_err-raster.ensures.1 in
+    let m = mapped PgmHeader _ _ c.read_header.result c.map_err.result c.read_header.ensures.is_the_header_or_where_it_ends c.map_err.ensures.cases in
+    let h = c.in_ok-header.header in
     record {
-      reads_the_picture_or_declines_by_the_table =
-          declined h.columns h.rows h.top h.length c.in-Some.fault c.in-Ok.ensures.is_the_header_or_where_it_ends
-          (first_in_front (size_checks h.columns h.rows h.top h.length (length xs) (length c.args.samples.now)) (sample_check xs h.length h.top (h.rows * h.columns) ∷ []) c.in-Some.fault (sym c.in-Some.ensures.is_the_first_check_that_fails));
+      reads_the_picture_or_declines_by_the_table = by_the_table p.1 p.2 h.columns h.rows h.top h.length (MatchResult-at_ok _ _ _ c.in_ok-header.was m)
+          (by_its_sizes c.args.bytes.now h.columns h.rows h.top h.length (length c.args.samples.now) _ c.in_err-raster.ensures.names_the_first_check_that_fails);
     }
 
-pub sample_fault-requires : goal.sample_fault-requires
-sample_fault-requires c = let l = c.in_default.ensures.leaves_lawful_sizes in (l.3, mul-le c.in-Ok.header.rows c.in-Ok.header.columns 4096 4096 l.1 l.0, l.2)
-
-pub returns-in-Some-sample_fault : goal.returns-in-Some-sample_fault
-returns-in-Some-sample_fault c =
-    let h = c.in-Ok.header in
-    let xs = c.args.bytes.now in
+pub returns-in_err-check : goal.returns-in_err-check
+returns-in_err-check c =
+    let p = err_from_is_err_and c.from_residual-in_err-check.result c.from_residual-in_err-check.ensures.1 in
+    let m = mapped PgmHeader _ _ c.read_header.result c.map_err.result c.read_header.ensures.is_the_header_or_where_it_ends c.map_err.ensures.cases in
+    let h = c.in_ok-header.header in
+    let s = c.in_ok-raster.raster in
     record {
-      reads_the_picture_or_declines_by_the_table =
-          declined h.columns h.rows h.top h.length c.in-Some-sample_fault.fault c.in-Ok.ensures.is_the_header_or_where_it_ends
-          (first_behind (size_checks h.columns h.rows h.top h.length (length xs) (length c.args.samples.now)) (sample_check xs h.length h.top (h.rows * h.columns) ∷ []) (sym c.in_default.ensures.is_the_first_check_that_fails)
-          ∙ sym c.in-Some-sample_fault.ensures.is_the_first_sample_over_the_top);
+      reads_the_picture_or_declines_by_the_table = by_the_table p.1 p.2 h.columns h.rows h.top h.length (MatchResult-at_ok _ _ _ c.in_ok-header.was m)
+          (c.in_err-check.ensures.names_the_first_sample_over_the_top
+          ∙ by_its_samples c.args.bytes.now h.columns h.rows h.top h.length (length c.args.samples.now) c.in_ok-raster.ensures.names_the_first_check_that_fails s.bytes.now s.from s.top s.count c.in_ok-raster.ensures.has_the_samples);
     }
-
-pub copy_samples-requires : goal.copy_samples-requires
-copy_samples-requires c = let l = c.in_default.ensures.leaves_lawful_sizes in (l.3, mul-le c.in-Ok.header.rows c.in-Ok.header.columns 4096 4096 l.1 l.0, l.2, l.4)
 
 pub returns : goal.returns
 returns c =
-    let h = c.in-Ok.header in
+    let m = mapped PgmHeader _ _ c.read_header.result c.map_err.result c.read_header.ensures.is_the_header_or_where_it_ends c.map_err.ensures.cases in
+    let h = c.in_ok-header.header in
+    let s = c.in_ok-raster.raster in
     let xs = c.args.bytes.now in
+    let was = c.args.samples.now in
+    let sizes = c.in_ok-raster.ensures.names_the_first_check_that_fails in
+    let same = c.in_ok-raster.ensures.has_the_samples in
     record {
-      reads_the_picture_or_declines_by_the_table =
-          taken h.columns h.rows h.top h.length c.copy_samples.new.samples c.in-Ok.ensures.is_the_header_or_where_it_ends
-          (first_behind (size_checks h.columns h.rows h.top h.length (length xs) (length c.args.samples.now)) (sample_check xs h.length h.top (h.rows * h.columns) ∷ []) (sym c.in_default.ensures.is_the_first_check_that_fails)
-          ∙ sym c.in_default-sample_fault.ensures.is_the_first_sample_over_the_top)
-          c.copy_samples.ensures.fills_the_front;
+      reads_the_picture_or_declines_by_the_table = taken h.columns h.rows h.top h.length c.copy.new.samples (MatchResult-at_ok _ _ _ c.in_ok-header.was m)
+          (sym (by_its_samples xs h.columns h.rows h.top h.length (length was) sizes s.bytes.now s.from s.top s.count same) ∙ sym c.in_ok-check.ensures.names_the_first_sample_over_the_top)
+          (filled xs h.columns h.rows h.top h.length (length was) sizes s.bytes.now s.from s.top s.count same was c.copy.new.samples c.copy.ensures.fills_the_front);
     }
