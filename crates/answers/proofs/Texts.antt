@@ -1,14 +1,9 @@
 -- Texts that grow piece by piece.
-use Rattle.std.proofs.Common.{◌≡◌, ℕ, zero, suc, ◌+◌, ◌<◌, List, [], ◌∷◌, ◌++◌, length, get_or, take, IfOk, Ok, Err, Result, sym, ap, ◌∙◌, zero-add, arith}
+use Rattle.std.proofs.Common.{◌≡◌, ℕ, zero, suc, ◌+◌, ◌<◌, List, [], ◌∷◌, ◌++◌, length, get_or, take, Ok, Err, Result, sym, ap, ◌∙◌, zero-add, arith}
 use Rattle.std.specs.List.{range_with_len, flat_map}
 use Rattle.faults.specs.declared.fault.Fault.{Fault}
 use Rattle.planes.specs.Planes.{Picture, Answers}
 use Rattle.std.proofs.lemmas.List.{flat_map_more, take_more}
-
--- what was made has one text, so it has an equal one
-pub same_text : {X E : Type 0} (r : Result X E) (f : X → List ℕ) (a b : List ℕ) → IfOk r (λ s. f s ≡ a) → a ≡ b → IfOk r (λ s. f s ≡ b)
-same_text (Ok x) f a b h e = h ∙ e
-same_text (Err x) f a b h e = tt
 
 -- one more number of a count
 pub counting_more : (a n : ℕ) → range_with_len a (n + 1) ≡ range_with_len a n ++ (a + n) ∷ []
