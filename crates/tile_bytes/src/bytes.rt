@@ -12,7 +12,7 @@ pub(crate) struct Offset {
 pub fn byte_at(bytes: &[u8], at: usize) -> u8
     ensures is_the_byte_or_zero { result ≡ byte bytes.now at }
 {
-    if at < bytes.len() { bytes[at] } else { 0 }
+    bytes.get(at).copied().unwrap_or(0)
 }
 
 pub fn put_byte(bytes: &mut [u8], at: usize, value: u8)
