@@ -49,14 +49,7 @@ pub fn perform_file(
 fn new_length(rows: usize, columns: usize) -> usize
     ensures is_the_length_of_a_file { result ≡ new_length rows columns }
 {
-    if rows > 4096 || columns > 4096 {
-        return 0;
-    }
-    let sides = Sides {
-        rows: rows as u16,
-        columns: columns as u16,
-    };
-    sides.file_length()
+    Sides::new(rows, columns).map_or(0, |sides| sides.file_length())
 }
 
 // Executes the calls on a plate over a new tile file, whose cells are 0 and whose bits are unset; where there can be no such file, its fault
