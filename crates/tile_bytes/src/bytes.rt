@@ -2,7 +2,7 @@
 ghost use Rattle.std.specs.Prelude.{◌≡◌, ℕ, ◌+◌, ◌^◌, ◌<◌, slice_set};
 ghost use Rattle.tile_bytes.specs.Bytes.{byte, word, number, with_bytes};
 
-// A place from which bytes can be counted on.
+// A place among bytes, so small that the bytes after it can be counted from it.
 #[derive(Clone, Copy)]
 pub(crate) struct Offset {
     pub(crate) at: usize,
