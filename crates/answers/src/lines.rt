@@ -1,23 +1,28 @@
 // The line of an answer.
-ghost use Rattle.std.specs.Prelude.{◌≡◌, ◌*◌, ◌++◌, take, IfOk, string_bytes};
+ghost use Rattle.std.specs.Prelude.{◌≡◌, ◌*◌, ◌++◌, take, Some, IfOk, string_bytes};
 ghost use Rattle.std.specs.List.{flat_map};
-ghost use Rattle.answers.specs.Lines.{fault_line, preview_line, done_line, recalled_line, bit_words, cell_line, line_of, answer_lines};
-ghost use Rattle.std.specs.Fmt.{signed_decimal};
+ghost use Rattle.answers.specs.Lines.{fault_line, preview_line, bit_words, line_of, answer_lines};
 
 use faults::fault::Fault;
 use planes::grid::is_covered;
 use plates::calls::{Answer, Call, Turn};
 use std::alloc::{AllocError, Global};
+use std::fmt;
 
-// Number, layer, place and words of a fault.
-pub fn fault_line(heap: Global, fault: Fault) -> Result<String, AllocError>
-    ensures is_the_line_of_the_fault { IfOk result (λ s. string_bytes s ≡ fault_line fault) }
-{
-    let number = fault.number();
-    let layer = fault.layer().number();
-    let place = fault.place();
-    let words = fault.words();
-    format!(in heap; "fault {number} {layer} {place} {words}\n")
+// The line of a fault: its number, layer, place and words.
+#[derive(Clone, Copy)]
+struct FaultLine(Fault);
+
+impl fmt::Display for FaultLine {
+    ghost output = { λ line. Some (fault_line line.0) };
+
+    fn fmt<W: fmt::Write>(&self, f: &mut fmt::Formatter<W>) -> fmt::Result {
+        let number = self.0.number();
+        let layer = self.0.layer().number();
+        let place = self.0.place();
+        let words = self.0.words();
+        writeln!(f, "fault {number} {layer} {place} {words}")
+    }
 }
 
 // The first numbers of an output, a space before each.
@@ -31,47 +36,19 @@ fn numbers_shown(height: usize, width: usize, output: &[i32]) -> &[i32]
     }
 }
 
-// A number in decimal digits.
-pub(crate) fn number_text(heap: Global, number: i32) -> Result<String, AllocError>
-    ensures is_the_number { IfOk result (λ s. string_bytes s ≡ signed_decimal number) }
-{
-    format!(in heap; "{number}")
-}
+// The line of a preview: its numbers, a space before each.
+#[derive(Clone, Copy)]
+struct PreviewLine<'a>(&'a [i32]);
 
-fn preview_line(heap: Global, numbers: &[i32]) -> Result<String, AllocError>
-    ensures names_every_number { IfOk result (λ s. string_bytes s ≡ preview_line numbers.now) }
-{
-    let mut line = String::from_str(heap, "preview")?;
-    for number in numbers {
-        line.push_str(&format!(in heap; " {number}")?)?;
-    }
-    line.push_str("\n")?;
-    Ok(line)
-}
+impl fmt::Display for PreviewLine<'_> {
+    ghost output = { λ line. Some (preview_line line.0.now) };
 
-// The line of a call that was done and answers no more than that.
-fn done_line(heap: Global, call: &Call) -> Result<String, AllocError>
-    ensures says_done_or_the_numbers_shown { IfOk result (λ s. string_bytes s ≡ done_line call.now) }
-{
-    match call {
-        Call::Preview {
-            card: _,
-            first: _,
-            height,
-            width,
-            scratch: _,
-            output,
-        } => preview_line(heap, numbers_shown(*height, *width, output)),
-        _ => String::from_str(heap, "ok\n"),
-    }
-}
-
-fn recalled_line(heap: Global, serial: Option<u32>) -> Result<String, AllocError>
-    ensures names_the_serial_or_none { IfOk result (λ s. string_bytes s ≡ recalled_line serial) }
-{
-    match serial {
-        Some(serial) => format!(in heap; "recalled {serial}\n"),
-        None => String::from_str(heap, "recalled none\n"),
+    fn fmt<W: fmt::Write>(&self, f: &mut fmt::Formatter<W>) -> fmt::Result {
+        f.write_str("preview")?;
+        for number in self.0 {
+            write!(f, " {number}")?;
+        }
+        writeln!(f)
     }
 }
 
@@ -82,28 +59,48 @@ fn bit_words(bit: bool) -> &'static str
     if bit { " set\n" } else { " unset\n" }
 }
 
-fn cell_line(heap: Global, number: i32, bit: bool) -> Result<String, AllocError>
-    ensures names_the_number_and_the_bit { IfOk result (λ s. string_bytes s ≡ cell_line number bit) }
+// The line of a call and its answer.
+#[derive(Clone, Copy)]
+struct Line<'a>(&'a Turn);
+
+impl fmt::Display for Line<'_> {
+    ghost output = { λ line. Some (line_of line.0.now) };
+
+    fn fmt<W: fmt::Write>(&self, f: &mut fmt::Formatter<W>) -> fmt::Result {
+        match (self.0.answer, &self.0.call) {
+            (Answer::Pending, _) => f.write_str("pending\n"),
+            (Answer::Declined(fault), _) => FaultLine(fault).fmt(f),
+            (
+                Answer::Done,
+                Call::Preview {
+                    height,
+                    width,
+                    output,
+                    ..
+                },
+            ) => PreviewLine(numbers_shown(*height, *width, output)).fmt(f),
+            (Answer::Done, _) => f.write_str("ok\n"),
+            (Answer::Leased(plate, serial), _) => writeln!(f, "lease {plate} {serial}"),
+            (Answer::Settled(count), _) => writeln!(f, "settled {count}"),
+            (Answer::Recalled(Some(serial)), _) => writeln!(f, "recalled {serial}"),
+            (Answer::Recalled(None), _) => f.write_str("recalled none\n"),
+            (Answer::CellRead(number, bit), _) => write!(f, "cell {number}{}", bit_words(bit)),
+        }
+    }
+}
+
+// Number, layer, place and words of a fault.
+pub fn fault_line(heap: Global, fault: Fault) -> Result<String, AllocError>
+    ensures is_the_line_of_the_fault { IfOk result (λ s. string_bytes s ≡ fault_line fault) }
 {
-    let mut line = String::from_str(heap, "cell ")?;
-    line.push_str(&number_text(heap, number)?)?;
-    line.push_str(bit_words(bit))?;
-    Ok(line)
+    FaultLine(fault).to_string(heap)
 }
 
 // The line of a call and its answer.
 pub fn answer_line(heap: Global, turn: &Turn) -> Result<String, AllocError>
     ensures is_the_line_of_the_answer { IfOk result (λ s. string_bytes s ≡ line_of turn.now) }
 {
-    match turn.answer {
-        Answer::Pending => String::from_str(heap, "pending\n"),
-        Answer::Declined(fault) => fault_line(heap, fault),
-        Answer::Done => done_line(heap, &turn.call),
-        Answer::Leased(plate, serial) => format!(in heap; "lease {plate} {serial}\n"),
-        Answer::Settled(count) => format!(in heap; "settled {count}\n"),
-        Answer::Recalled(serial) => recalled_line(heap, serial),
-        Answer::CellRead(number, bit) => cell_line(heap, number, bit),
-    }
+    Line(turn).to_string(heap)
 }
 
 // The lines of the calls of a list, in their order.

@@ -8,7 +8,7 @@ use Rattle.tile_bytes.specs.Bytes.{byte, number, with_four}
 use Rattle.tile_bytes.specs.Bits.{has_bit, with_bit, without_bit, bit, with_mark}
 use Rattle.tile_bytes.specs.Layout.{slot_start, slot_number, slot_bit, OneCell, PutChangesOneCell, UnsetChangesOneBit}
 use Rattle.tile_bytes.proofs.Masks.{one_bit_is_set, one_bit_is_unset}
-use Rattle.tile_bytes.proofs.Writes.{length_four, other_four, number_four, bit_there, bit_elsewhere}
+use Rattle.tile_bytes.proofs.Writes.{length_bytes, other_bytes, number_four, bit_there, bit_elsewhere}
 
 -- the bytes of two cells lie apart
 cells_apart : (s m i n : ℕ) → m < 256 → n < 256 → (i ≡ s → n ≡ m → ⊥) → (1056 * i + 4 * n + 4 ≤ 1056 * s + 4 * m) ⊎ (1056 * s + 4 * m + 4 ≤ 1056 * i + 4 * n)
@@ -90,11 +90,11 @@ module _ (T s m : ℕ) (x : ℤ) (xs : List ℕ) (f : SFits w32 x) (hm : m < 256
 
   size_numbered : length numbered ≡ length xs
   unfolding numbered
-  size_numbered = length_four xs (slot_start T s + 4 * m) (four_bytes (of_z w32 x))
+  size_numbered = length_bytes xs (slot_start T s + 4 * m) (four_bytes (of_z w32 x))
 
   other_number : (k : ℕ) → (k < slot_start T s + 4 * m) ⊎ (slot_start T s + 4 * m + 4 ≤ k) → byte numbered k ≡ byte xs k
   unfolding numbered
-  other_number = other_four xs (slot_start T s + 4 * m) (four_bytes (of_z w32 x))
+  other_number = other_bytes xs (slot_start T s + 4 * m) (four_bytes (of_z w32 x))
 
   number_put : slot_number T numbered s m ≡ x
   unfolding numbered

@@ -1,39 +1,41 @@
 -- Bytes written one after the other, and one bit written.
-use Rattle.std.proofs.Common.{◌≡◌, ℕ, ◌+◌, ◌*◌, ◌/◌, ◌%◌, ◌^◌, ◌<◌, ◌≤◌, Bool, ◌⊎◌, List, length, get_or, set, ℤ, sym, refl, ap, ◌∙◌, ⊎_elim, arith, length-set, w32, SFits, to_z, of_z}
+use Rattle.std.proofs.Common.{◌≡◌, ℕ, zero, suc, inl, inr, ◌+◌, ◌*◌, ◌/◌, ◌%◌, ◌^◌, ◌<◌, ◌≤◌, Bool, ◌⊎◌, List, [], ◌∷◌, length, set, ℤ, sym, refl, ap, ◌∙◌, ⊎_elim, arith, length-set, w32, SFits, to_z, of_z}
 use Rattle.std.proofs.lemmas.Nat.{shr-shr}
 use Rattle.std.proofs.lemmas.List.{get_or-set_same, get_or-set_other}
 use Rattle.std.proofs.lemmas.Int.{to_z-of_z, ints}
 use Rattle.std.proofs.lemmas.Bool.{cases_eq}
 use Rattle.frames.specs.Frames.{two_bytes, four_bytes}
-use Rattle.tile_bytes.specs.Bytes.{byte, word, number, with_two, with_four}
+use Rattle.tile_bytes.specs.Bytes.{byte, word, number, with_bytes, with_two, with_four}
 use Rattle.tile_bytes.specs.Bits.{has_bit, bit}
 
--- two bytes
-pub length_two : (xs : List ℕ) (at : ℕ) (b : List ℕ) → length (with_two xs at b) ≡ length xs
-length_two xs at b = simp length-set
+-- bytes put from a place on: the length and the others stay, and there they are
+pub length_bytes : (xs : List ℕ) (at : ℕ) (b : List ℕ) → length (with_bytes xs at b) ≡ length xs
+length_bytes xs at [] = refl
+length_bytes xs at (v ∷ b) = length_bytes (set xs at v) (at + 1) b ∙ length-set xs at v
 
-pub other_two : (xs : List ℕ) (at : ℕ) (b : List ℕ) (k : ℕ) → (k < at) ⊎ (at + 2 ≤ k) → byte (with_two xs at b) k ≡ byte xs k
-other_two xs at b k = ⊎_elim
-    (λ h. get_or-set_other _ (at + 1) k _ 0 (λ e. omega arith) ∙ get_or-set_other xs at k _ 0 (λ e. omega arith))
-    (λ h. get_or-set_other _ (at + 1) k _ 0 (λ e. omega arith) ∙ get_or-set_other xs at k _ 0 (λ e. omega arith))
+pub other_bytes : (xs : List ℕ) (at : ℕ) (b : List ℕ) (k : ℕ) → (k < at) ⊎ (at + length b ≤ k) → byte (with_bytes xs at b) k ≡ byte xs k
+other_bytes xs at [] k h = refl
+other_bytes xs at (v ∷ b) k h =
+    other_bytes (set xs at v) (at + 1) b k (⊎_elim (λ l. inl (omega arith)) (λ l. inr (omega arith)) h)
+    ∙ get_or-set_other xs at k v 0 (λ e. ⊎_elim (λ l. omega arith) (λ l. omega arith) h)
+
+bytes_there : (xs : List ℕ) (at : ℕ) (b : List ℕ) (k : ℕ) → at + length b ≤ length xs → k < length b → byte (with_bytes xs at b) (at + k) ≡ byte b k
+bytes_there xs at [] k h l = absurd (omega arith)
+bytes_there xs at (v ∷ b) zero h l =
+    let z : at + 0 ≡ at = omega arith in
+    rw z (other_bytes (set xs at v) (at + 1) b at (inl (omega arith)) ∙ get_or-set_same xs at v 0 (omega arith))
+bytes_there xs at (v ∷ b) (suc k) h l =
+    let z : at + suc k ≡ at + 1 + k = omega arith in
+    rw z (bytes_there (set xs at v) (at + 1) b k (omega (arith, length-set xs at v)) (omega arith))
+
+first_there : (xs : List ℕ) (at : ℕ) (b : List ℕ) → at + length b ≤ length xs → 0 < length b → byte (with_bytes xs at b) at ≡ byte b 0
+first_there xs at b h l = let z : at + 0 ≡ at = omega arith in rw z at (bytes_there xs at b 0 h l)
 
 pub word_two : (xs : List ℕ) (at n : ℕ) → at + 2 ≤ length xs → n < 2 ^ 16 → word (with_two xs at (two_bytes n)) at ≡ n
 word_two xs at n h l =
-    let x1 = set xs at (n / 256 % 256) in
-    let l1 = length-set xs at (n / 256 % 256) in
-    let d0 : byte (with_two xs at (two_bytes n)) at ≡ n / 256 % 256 = get_or-set_other x1 (at + 1) at _ 0 (λ e. omega arith) ∙ get_or-set_same xs at _ 0 (omega arith) in
-    let d1 : byte (with_two xs at (two_bytes n)) (at + 1) ≡ n % 256 = get_or-set_same x1 (at + 1) _ 0 (omega arith) in
+    let d0 : byte (with_two xs at (two_bytes n)) at ≡ n / 256 % 256 = first_there xs at (two_bytes n) h (omega arith) in
+    let d1 : byte (with_two xs at (two_bytes n)) (at + 1) ≡ n % 256 = bytes_there xs at (two_bytes n) 1 h (omega arith) in
     omega arith
-
--- four bytes
-pub length_four : (xs : List ℕ) (at : ℕ) (b : List ℕ) → length (with_four xs at b) ≡ length xs
-length_four xs at b = simp length-set
-
-pub other_four : (xs : List ℕ) (at : ℕ) (b : List ℕ) (k : ℕ) → (k < at) ⊎ (at + 4 ≤ k) → byte (with_four xs at b) k ≡ byte xs k
-other_four xs at b k = ⊎_elim (λ h. stays (λ e. omega arith) (λ e. omega arith) (λ e. omega arith) (λ e. omega arith)) (λ h. stays (λ e. omega arith) (λ e. omega arith) (λ e. omega arith) (λ e. omega arith))
-  where
-    stays : (k ≡ at → ⊥) → (k ≡ at + 1 → ⊥) → (k ≡ at + 2 → ⊥) → (k ≡ at + 3 → ⊥) → byte (with_four xs at b) k ≡ byte xs k
-    stays p q r s = get_or-set_other _ (at + 3) k _ 0 s ∙ get_or-set_other _ (at + 2) k _ 0 r ∙ get_or-set_other _ (at + 1) k _ 0 q ∙ get_or-set_other xs at k _ 0 p
 
 whole : (n : ℕ) → n < 2 ^ 32 → n / 16777216 % 256 * 16777216 + n / 65536 % 256 * 65536 + n / 256 % 256 * 256 + n % 256 ≡ n
 whole n h =
@@ -46,33 +48,15 @@ whole n h =
     let r0 : n ≡ 256 * (n / 256) + n % 256 = omega arith in
     omega arith
 
-module _ (xs : List ℕ) (at : ℕ) (b : List ℕ) (h : at + 4 ≤ length xs) where
-  one : List ℕ
-  one = set xs at (get_or b 0 0)
-
-  two : List ℕ
-  two = set one (at + 1) (get_or b 1 0)
-
-  three : List ℕ
-  three = set two (at + 2) (get_or b 2 0)
-
-  unsigned_four : (n : ℕ) → n < 2 ^ 32 → get_or b 0 0 ≡ n / 16777216 % 256 → get_or b 1 0 ≡ n / 65536 % 256 → get_or b 2 0 ≡ n / 256 % 256 → get_or b 3 0 ≡ n % 256
-      → number (with_four xs at b) at ≡ to_z w32 n
-  unfolding one two three
-  unsigned_four n l e0 e1 e2 e3 =
-      let l1 = length-set xs at (get_or b 0 0) in
-      let l2 = length-set one (at + 1) (get_or b 1 0) in
-      let l3 = length-set two (at + 2) (get_or b 2 0) in
-      let d0 : byte (with_four xs at b) at ≡ n / 16777216 % 256 = get_or-set_other three (at + 3) at _ 0 (λ e. omega arith) ∙ get_or-set_other two (at + 2) at _ 0 (λ e. omega arith) ∙ get_or-set_other one (at + 1) at _ 0 (λ e. omega arith) ∙ get_or-set_same xs at _ 0 (omega arith) ∙ e0 in
-      let d1 : byte (with_four xs at b) (at + 1) ≡ n / 65536 % 256 = get_or-set_other three (at + 3) (at + 1) _ 0 (λ e. omega arith) ∙ get_or-set_other two (at + 2) (at + 1) _ 0 (λ e. omega arith) ∙ get_or-set_same one (at + 1) _ 0 (omega arith) ∙ e1 in
-      let d2 : byte (with_four xs at b) (at + 2) ≡ n / 256 % 256 = get_or-set_other three (at + 3) (at + 2) _ 0 (λ e. omega arith) ∙ get_or-set_same two (at + 2) _ 0 (omega arith) ∙ e2 in
-      let d3 : byte (with_four xs at b) (at + 3) ≡ n % 256 = get_or-set_same three (at + 3) _ 0 (omega arith) ∙ e3 in
-      (λ i. to_z w32 (d0 i * 16777216 + d1 i * 65536 + d2 i * 256 + d3 i)) ∙ ap (to_z w32) (whole n l)
-
 pub number_four : (xs : List ℕ) (at : ℕ) (x : ℤ) → at + 4 ≤ length xs → SFits w32 x → number (with_four xs at (four_bytes (of_z w32 x))) at ≡ x
 number_four xs at x h f =
-    let l : of_z w32 x < 2 ^ 32 = search (arith, ints) in
-    unsigned_four xs at (four_bytes (of_z w32 x)) h (of_z w32 x) l refl refl refl refl ∙ to_z-of_z w32 x f
+    let n = of_z w32 x in
+    let l : n < 2 ^ 32 = search (arith, ints) in
+    let d0 : byte (with_four xs at (four_bytes n)) at ≡ n / 16777216 % 256 = first_there xs at (four_bytes n) h (omega arith) in
+    let d1 : byte (with_four xs at (four_bytes n)) (at + 1) ≡ n / 65536 % 256 = bytes_there xs at (four_bytes n) 1 h (omega arith) in
+    let d2 : byte (with_four xs at (four_bytes n)) (at + 2) ≡ n / 256 % 256 = bytes_there xs at (four_bytes n) 2 h (omega arith) in
+    let d3 : byte (with_four xs at (four_bytes n)) (at + 3) ≡ n % 256 = bytes_there xs at (four_bytes n) 3 h (omega arith) in
+    (λ i. to_z w32 (d0 i * 16777216 + d1 i * 65536 + d2 i * 256 + d3 i)) ∙ ap (to_z w32) (whole n l) ∙ to_z-of_z w32 x f
 
 -- one byte of bits, in which the bit of cell m becomes t and the others stay
 module _ (xs : List ℕ) (at m v : ℕ) (t : Bool) (h : at + m / 8 < length xs) (is : has_bit v m ≡ t)

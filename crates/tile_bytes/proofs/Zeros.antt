@@ -1,7 +1,9 @@
 -- Bytes set to 0, part after part.
-use Rattle.std.proofs.Common.{◌≡◌, ℕ, ◌+◌, ◌*◌, ◌≤◌, max, Bool, true, false, cond, ◌||◌, eqb, List, length, set, refl, ap, ◌∙◌, ⊎_elim, arith, length-set}
-use Rattle.std.proofs.lemmas.List.{get_or-set_same, get_or-set_other, get_or_past, set_past}
-use Rattle.std.proofs.lemmas.Bool.{cases_eq, cases_lt, eq-eqb, ne_eqb}
+use Rattle.std.proofs.Common.{◌≡◌, ℕ, ◌+◌, ◌*◌, ◌≤◌, min, Bool, false, cond, ◌||◌, ◌-◌, ◌<◌, List, length, replicate, refl, ◌∙◌, ⊎_elim, arith, rules}
+use borrow.Rule.Slice.PartMut.{put_mid}
+use Rattle.std.proofs.lemmas.Grind.{common_steps}
+use Rattle.std.proofs.lemmas.List.{places, get_or_past}
+use Rattle.std.proofs.lemmas.Bool.{cases_lt}
 use Rattle.std.proofs.lemmas.Bool.Decides.{nat_tests}
 use Rattle.tile_bytes.specs.Bytes.{byte}
 use Rattle.tile_bytes.specs.Slots.{Zeroed, between, holds_bits}
@@ -9,46 +11,45 @@ use Rattle.tile_bytes.specs.Slots.{Zeroed, between, holds_bits}
 zeroed_none : (test : ℕ → Bool) (xs : List ℕ) → ((k : ℕ) → test k ≡ false) → Zeroed test xs xs
 zeroed_none test xs none = record { size = refl; each = λ k. let e = none k in grind (arith, nat_tests) }
 
-zeroed_like : (p q : ℕ → Bool) (xs ys : List ℕ) → ((k : ℕ) → p k ≡ q k) → Zeroed p xs ys → Zeroed q xs ys
-zeroed_like p q xs ys same z = record { size = z.size; each = λ k. z.each k ∙ ap (λ (b : Bool). cond b 0 (byte xs k)) (same k) }
-
 zeroed_more : (p q r : ℕ → Bool) (xs ys zs : List ℕ) → ((k : ℕ) → r k ≡ (p k || q k)) → Zeroed p xs ys → Zeroed q ys zs → Zeroed r xs zs
 zeroed_more p q r xs ys zs is a b = record {
   size = b.size ∙ a.size;
   each = λ k. let e = is k in let f = a.each k in let g = b.each k in grind (arith, nat_tests);
 }
 
--- one byte
-zero_there : (at : ℕ) (xs : List ℕ) → byte (set xs at 0) at ≡ 0
-zero_there at xs = ⊎_elim (λ h. get_or-set_same xs at 0 0 h) (λ h. ap (λ (l : List ℕ). byte l at) (set_past xs at 0 h) ∙ get_or_past xs at 0 h) (cases_lt at (length xs))
+-- the bytes from a to before b, as far as there are any, are replaced by zeros
+module _ (a b e : ℕ) (xs : List ℕ) (last : e ≡ min b (length xs)) (h : a < e) where
+  filled : List ℕ
+  filled = put_mid a (e - a) xs (replicate (e - a) 0)
 
-zeroed_one : (at : ℕ) (xs ys : List ℕ) → ys ≡ set xs at 0 → Zeroed (λ k. eqb k at) xs ys
-zeroed_one at xs ys e = record {
-  size = ap length e ∙ length-set xs at 0;
-  each = λ k. ap (λ (l : List ℕ). byte l k) e ∙ ⊎_elim
-      (λ q. let h : eqb k at ≡ true = eq-eqb k at q in rw h (ap (λ (n : ℕ). byte (set xs at 0) n) q ∙ zero_there at xs))
-      (λ q. let h : eqb k at ≡ false = ne_eqb k at q in rw h (get_or-set_other xs at k 0 0 q))
-      (cases_eq k at);
-}
+  size_filled : length filled ≡ length xs
+  unfolding filled
+  size_filled = grind (arith, common_steps)
 
--- the bytes between two places, one after the other
-none_between : (a b k : ℕ) → b ≤ a → between a b k ≡ false
-none_between a b k h = grind (arith, nat_tests)
+  before : (k : ℕ) → k < a → byte filled k ≡ byte xs k
+  unfolding filled
+  before k l = search (rules, places)
 
-between_more : (a b k : ℕ) → a ≤ b → between a (b + 1) k ≡ (between a b k || eqb k b)
-between_more a b k h = grind (arith, nat_tests)
+  within : (k : ℕ) → a ≤ k → k < e → byte filled k ≡ 0
+  unfolding filled
+  within k l m = search (rules, places)
 
-between_all : (a i b k : ℕ) → b ≤ i → i ≤ max a b → between a i k ≡ between a b k
-between_all a i b k h l = grind (arith, nat_tests)
+  after : (k : ℕ) → e ≤ k → byte filled k ≡ byte xs k
+  unfolding filled
+  after k l = search (rules, places)
 
-pub zeroed_front : (a : ℕ) (xs : List ℕ) → Zeroed (between a a) xs xs
-zeroed_front a xs = zeroed_none (between a a) xs (λ k. none_between a a k (omega arith))
+  each_filled : (k : ℕ) → byte filled k ≡ cond (between a b k) 0 (byte xs k)
+  each_filled k = ⊎_elim
+      (λ l. let f = before k l in grind (arith, nat_tests))
+      (λ l. ⊎_elim
+      (λ m. let f = within k l m in grind (arith, nat_tests))
+      (λ m. let f = after k m in let g = get_or_past xs k 0 in grind (arith, nat_tests))
+      (cases_lt k e))
+      (cases_lt k a)
 
-pub zeroed_next : (a b : ℕ) (xs ys zs : List ℕ) → a ≤ b → Zeroed (between a b) xs ys → zs ≡ set ys b 0 → Zeroed (between a (b + 1)) xs zs
-zeroed_next a b xs ys zs h z e = zeroed_more (between a b) (λ k. eqb k b) (between a (b + 1)) xs ys zs (λ k. between_more a b k h) z (zeroed_one b ys zs e)
-
-pub zeroed_all : (a i b : ℕ) (xs ys : List ℕ) → b ≤ i → i ≤ max a b → Zeroed (between a i) xs ys → Zeroed (between a b) xs ys
-zeroed_all a i b xs ys h l z = zeroed_like (between a i) (between a b) xs ys (λ k. between_all a i b k h l) z
+pub zeroed_part : (a b e : ℕ) (xs ys : List ℕ) → e ≡ min b (length xs) → a < e → ys ≡ replicate (e - a) 0 → Zeroed (between a b) xs (put_mid a (e - a) xs ys)
+unfolding filled
+zeroed_part a b e xs ys last h is = rw is (record { size = size_filled a b e xs last h; each = each_filled a b e xs last h })
 
 -- the change bits of one slot more
 bits_more : (T n k : ℕ) → holds_bits T (n + 1) k ≡ (holds_bits T n k || between (4 + 2 * T + 1056 * n + 1024) (4 + 2 * T + 1056 * n + 1056) k)

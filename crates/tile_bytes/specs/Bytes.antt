@@ -1,5 +1,5 @@
 -- Numbers in a list of bytes, high byte first.
-use Rattle.std.specs.Prelude.{ℕ, ◌+◌, ◌*◌, List, ℤ, slice_index, slice_set}
+use Rattle.std.specs.Prelude.{ℕ, ◌+◌, ◌*◌, List, [], ◌∷◌, ℤ, slice_index, slice_set}
 use Rattle.std.proofs.Common.{to_z}
 use Rattle.std.specs.Int.{w32}
 
@@ -18,9 +18,14 @@ four_byte_number xs at = byte xs at * 16777216 + byte xs (at + 1) * 65536 + byte
 abbrev pub number : List ℕ → ℕ → ℤ
 number xs at = to_z w32 (four_byte_number xs at)
 
--- the first two or four of the bytes b put over those from a place on; past the end there is nothing to put them over
+-- the bytes b put over those from a place on, one after the other; past the end there is nothing to put them over
+abbrev pub with_bytes : List ℕ → ℕ → List ℕ → List ℕ
+with_bytes xs at [] = xs
+with_bytes xs at (b ∷ bs) = with_bytes (slice_set xs at b) (at + 1) bs
+
+-- the first two or four of the bytes b put so
 abbrev pub with_two : List ℕ → ℕ → List ℕ → List ℕ
-with_two xs at b = slice_set (slice_set xs at (slice_index b 0)) (at + 1) (slice_index b 1)
+with_two xs at b = with_bytes xs at (slice_index b 0 ∷ slice_index b 1 ∷ [])
 
 abbrev pub with_four : List ℕ → ℕ → List ℕ → List ℕ
-with_four xs at b = slice_set (slice_set (slice_set (slice_set xs at (slice_index b 0)) (at + 1) (slice_index b 1)) (at + 2) (slice_index b 2)) (at + 3) (slice_index b 3)
+with_four xs at b = with_bytes xs at (slice_index b 0 ∷ slice_index b 1 ∷ slice_index b 2 ∷ slice_index b 3 ∷ [])

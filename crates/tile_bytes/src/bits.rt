@@ -1,8 +1,9 @@
 // One change bit of a tile's cell, set, asked and cleared by shift and mask: in byte m div 8, with weight 2^(m mod 8).
-ghost use Rattle.std.specs.Prelude.{◌≡◌, ℕ, ◌+◌, ◌%◌, ◌^◌, ◌<◌, ◌==◌};
+ghost use Rattle.std.specs.Prelude.{◌≡◌, ℕ, ◌+◌, ◌%◌, ◌/◌, ◌==◌, slice_set};
+ghost use Rattle.tile_bytes.specs.Bytes.{byte};
 ghost use Rattle.tile_bytes.specs.Bits.{has_bit, with_bit, without_bit, bit, with_mark, without_mark, OneBitIsSet, OneBitIsUnset};
 
-use crate::bytes::{byte_at, put_byte};
+use crate::bytes::{Offset, byte_at, put_byte};
 
 fn is_odd(byte: u8) -> bool
     ensures tells_the_lowest_bit { result ≡ ((byte % 2) == 1) }
@@ -37,25 +38,29 @@ pub fn one_bit_changes()
     ensures one_bit_is_unset { OneBitIsUnset }
 {}
 
-pub(crate) fn bit_at(bytes: &[u8], at: usize, cell: u8) -> bool
-    requires { at < 2 ^ 63 }
-    ensures tells_the_cells_bit { result ≡ bit bytes.now at cell }
+pub(crate) fn bit_at(bytes: &[u8], offset: Offset, cell: u8) -> bool
+    ensures tells_the_cells_bit { result ≡ bit bytes.now offset.at cell }
 {
-    has_bit(byte_at(bytes, at + (cell / 8) as usize), cell)
+    has_bit(byte_at(bytes, offset.at + (cell / 8) as usize), cell)
 }
 
-pub(crate) fn set_bit(bytes: &mut [u8], at: usize, cell: u8)
-    requires { at < 2 ^ 63 }
-    ensures sets_the_cells_bit { bytes.new ≡ with_mark bytes.old at cell }
+// Changes the byte that holds the bit of a cell.
+fn change_byte<F: Fn(u8, u8) -> u8>(bytes: &mut [u8], offset: Offset, cell: u8, change: F)
+    requires { F.IsAlwaysCallable change }
+    ensures changes_the_cells_byte { (v : ℕ) × F.post change (byte bytes.old (offset.at + cell / 8)) cell v × (bytes.new ≡ slice_set bytes.old (offset.at + cell / 8) v) }
 {
-    let place = at + (cell / 8) as usize;
-    put_byte(bytes, place, with_bit(byte_at(bytes, place), cell));
+    let place = offset.at + (cell / 8) as usize;
+    put_byte(bytes, place, change(byte_at(bytes, place), cell));
 }
 
-pub(crate) fn clear_bit(bytes: &mut [u8], at: usize, cell: u8)
-    requires { at < 2 ^ 63 }
-    ensures unsets_the_cells_bit { bytes.new ≡ without_mark bytes.old at cell }
+pub(crate) fn set_bit(bytes: &mut [u8], offset: Offset, cell: u8)
+    ensures sets_the_cells_bit { bytes.new ≡ with_mark bytes.old offset.at cell }
 {
-    let place = at + (cell / 8) as usize;
-    put_byte(bytes, place, without_bit(byte_at(bytes, place), cell));
+    change_byte(bytes, offset, cell, with_bit);
+}
+
+pub(crate) fn clear_bit(bytes: &mut [u8], offset: Offset, cell: u8)
+    ensures unsets_the_cells_bit { bytes.new ≡ without_mark bytes.old offset.at cell }
+{
+    change_byte(bytes, offset, cell, without_bit);
 }

@@ -3,7 +3,7 @@ ghost use Rattle.std.specs.Prelude.{◌≡◌, ℕ, ◌+◌, ◌*◌};
 ghost use Rattle.tile_bytes.specs.Layout.{tile_count, slot_of, slot_start, slot_number, slot_bit, with_cell, without_cell_bit, PutChangesOneCell, UnsetChangesOneBit};
 
 use crate::bits::{bit_at, clear_bit, set_bit};
-use crate::bytes::{number_at, put_four};
+use crate::bytes::{Offset, number_at, put_digits};
 use crate::header::slot_of;
 use crate::sides::{Sides, TilePlace};
 
@@ -19,7 +19,9 @@ pub fn number_of(bytes: &[u8], sides: Sides, place: TilePlace) -> i32
 {
     number_at(
         bytes,
-        slot_start(bytes, sides, place.tile) + 4 * place.cell as usize,
+        Offset {
+            at: slot_start(bytes, sides, place.tile) + 4 * place.cell as usize,
+        },
     )
 }
 
@@ -28,7 +30,9 @@ pub fn bit_of(bytes: &[u8], sides: Sides, place: TilePlace) -> bool
 {
     bit_at(
         bytes,
-        slot_start(bytes, sides, place.tile) + 1024,
+        Offset {
+            at: slot_start(bytes, sides, place.tile) + 1024,
+        },
         place.cell,
     )
 }
@@ -38,8 +42,12 @@ pub fn put_cell(bytes: &mut [u8], sides: Sides, place: TilePlace, number: i32)
     ensures writes_the_number_and_sets_the_bit { bytes.new ≡ with_cell (tile_count sides.rows sides.columns) bytes.old (slot_of bytes.old place.tile) place.cell number }
 {
     let start = slot_start(bytes, sides, place.tile);
-    put_four(bytes, start + 4 * place.cell as usize, number.to_be_bytes());
-    set_bit(bytes, start + 1024, place.cell);
+    let number_start = Offset {
+        at: start + 4 * place.cell as usize,
+    };
+    let bits_start = Offset { at: start + 1024 };
+    put_digits(bytes, number_start, &number.to_be_bytes());
+    set_bit(bytes, bits_start, place.cell);
 }
 
 // Unsets the bit of one cell.
@@ -47,7 +55,7 @@ pub fn clear_cell(bytes: &mut [u8], sides: Sides, place: TilePlace)
     ensures unsets_the_bit { bytes.new ≡ without_cell_bit (tile_count sides.rows sides.columns) bytes.old (slot_of bytes.old place.tile) place.cell }
 {
     let start = slot_start(bytes, sides, place.tile);
-    clear_bit(bytes, start + 1024, place.cell);
+    clear_bit(bytes, Offset { at: start + 1024 }, place.cell);
 }
 
 // What the two mean: one cell gets its number and its bit, or loses its bit, and all else stays.

@@ -1,5 +1,5 @@
 // The sides of a plate in tiles of 16 × 16 places.
-ghost use Rattle.std.specs.Prelude.{◌≡◌, ℕ, ◌+◌, ◌*◌, ◌/◌, ◌<◌, MatchOption};
+ghost use Rattle.std.specs.Prelude.{◌≡◌, ℕ, ◌+◌, ◌*◌, ◌/◌, ◌<◌, ◌≤◌, MatchOption};
 ghost use Rattle.tile_bytes.specs.Layout.{tiles_along, tile_count, slots_end, tile_of, cell_of};
 
 // Rows and columns, as the first four bytes of a file hold them.
@@ -23,6 +23,22 @@ fn tiles_along(side: u16) -> u32
 }
 
 impl Sides {
+    // The sides, if none is over 4,096, the longest of a plate.
+    pub fn new(rows: usize, columns: usize) -> Option<Sides>
+        ensures are_the_sides_up_to_4096 { MatchOption result
+            ((rows ≤ 4096) × (columns ≤ 4096) → ⊥)
+            (λ s. (rows ≤ 4096) × (columns ≤ 4096) × (s.rows ≡ rows) × (s.columns ≡ columns)) }
+    {
+        if rows <= 4096 && columns <= 4096 {
+            Some(Sides {
+                rows: rows as u16,
+                columns: columns as u16,
+            })
+        } else {
+            None
+        }
+    }
+
     // The number of tiles.
     pub fn tiles(self) -> u32
         ensures is_the_number_of_tiles { result ≡ tile_count self.rows self.columns }

@@ -3,15 +3,15 @@ ghost use Rattle.std.specs.Prelude.{ℕ, ◌+◌, ◌*◌};
 ghost use Rattle.tile_bytes.specs.Layout.{tile_count};
 ghost use Rattle.tile_bytes.specs.Slots.{Zeroed, between, in_slots, holds_bits};
 
-use crate::bytes::put_byte;
 use crate::sides::Sides;
 
 // Sets the bytes from one place to before another to 0.
 fn zero(bytes: &mut [u8], first: usize, last: usize)
     ensures zeroes_the_bytes_between { Zeroed (between first last) bytes.old bytes.new }
 {
-    for k in first..last {
-        put_byte(bytes, k, 0);
+    let end = last.min(bytes.len());
+    if first < end {
+        bytes[first..end].fill(0);
     }
 }
 

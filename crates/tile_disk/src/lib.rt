@@ -13,9 +13,7 @@ use std::{fs, io};
 fn name_beside<A: Allocator>(heap: A, path: &str) -> Result<String<A>, AllocError>
     ensures is_the_path_with_an_ending { IfOk result (λ name. string_bytes name ≡ path.now ++ codes ".new") }
 {
-    let mut name = String::from_str(heap, path)?;
-    name.push_str(".new")?;
-    Ok(name)
+    format!(in heap; "{path}.new")
 }
 
 // Writes a whole file and waits until the disk has it.
@@ -33,9 +31,8 @@ pub fn read_plate<R: Files + Alloc>(rt: &R, path: &str) -> io::Result<Vec<u8, R:
 // Replaces a plate's file by these bytes: they are written beside it first, and then take its name.
 pub fn write_plate<R: Files + Alloc>(rt: &R, path: &str, bytes: &[u8]) -> io::Result<()> {
     let beside = name_beside(rt.alloc(), path)?;
-    if let Err(error) = write_through(rt, beside.as_str(), bytes) {
+    write_through(rt, beside.as_str(), bytes).inspect_err(|_| {
         let _ = fs::remove_file(rt, beside.as_str());
-        return Err(error);
-    }
+    })?;
     fs::rename(rt, beside.as_str(), path)
 }

@@ -1,47 +1,67 @@
-// A tile file open for reading and writing: a store.
-ghost use Rattle.std.specs.Prelude.{◌≡◌, ℕ, true, false};
+// An open tile file: a plane over bytes that are owned or borrowed, and a store where they are owned.
+ghost use Rattle.std.specs.Prelude.{◌≡◌, ℕ, true, false, ⊤};
 ghost use Rattle.tiles.specs.Opening.{height, width};
 ghost use Rattle.tiles.specs.Files.{file_picture, file_bits, FileFrame, file_still, file_onward, PutsFile, ClearsFile};
 ghost use Rattle.planes.specs.Planes.{PutsNumber, PutsBit, unmarked};
 
 use crate::opening::opened_sides;
-use crate::places::{ask_place, put_place, read_place};
 use faults::fault::Fault;
 use planes::plane::{Plane, Store};
+use std::alloc::AllocError;
+use std::convert::AsSlice;
+use tile_bytes::cells::{bit_of, number_of, put_cell};
 use tile_bytes::sides::Sides;
 use tile_bytes::slots::clear_bits;
 
-// The bytes of a file, owned, and the sides that they have.
+// The bytes of a file and the sides that they have.
 #[derive(Drop)]
-pub struct TileFile {
-    bytes: Vec<u8>,
+pub struct Opened<B: AsSlice<u8>> {
+    bytes: B,
     sides: Sides,
-    ghost has_the_rows: { sides.rows ≡ height bytes.items },
-    ghost has_the_columns: { sides.columns ≡ width bytes.items },
+    ghost has_the_rows: { sides.rows ≡ height (B.items bytes) },
+    ghost has_the_columns: { sides.columns ≡ width (B.items bytes) },
 }
 
-impl TileFile {
-    // The file, with no rows and no columns where there is a fault; every byte stays as it is.
-    pub fn open(bytes: Vec<u8>) -> TileFile
-        ensures has_the_rows_or_none { result.sides.rows ≡ height bytes.items }
-        ensures has_the_columns_or_none { result.sides.columns ≡ width bytes.items }
-        ensures keeps_every_byte { result.bytes ≡ bytes }
-    {
-        let sides = opened_sides(&bytes);
-        TileFile { bytes, sides }
-    }
+// The bytes of a file, owned: open for reading and writing.
+pub type TileFile = Opened<Vec<u8>>;
 
+impl<B: AsSlice<u8> + Copy> Copy for Opened<B> {}
+
+impl<B: AsSlice<u8> + Copy> Clone for Opened<B> {
+    ghost is_clone = { λ x y. y ≡ x };
+
+    ghost is_infallible = { λ _. ⊤ };
+
+    fn clone(&self) -> Result<Opened<B>, AllocError> {
+        Ok(*self)
+    }
+}
+
+impl<B: AsSlice<u8>> Opened<B> {
+    // The file, with no rows and no columns where there is a fault; every byte stays as it is.
+    pub fn open(bytes: B) -> Opened<B>
+        ensures has_the_rows_or_none { result.sides.rows ≡ height (B.items bytes) }
+        ensures has_the_columns_or_none { result.sides.columns ≡ width (B.items bytes) }
+        ensures keeps_every_byte { result.bytes ≡ bytes }
+        ensures shows_every_byte { B.items result.bytes ≡ B.items bytes }
+    {
+        let sides = opened_sides(bytes.as_slice());
+        Opened { bytes, sides }
+    }
+}
+
+impl Opened<Vec<u8>> {
     // The bytes as they are now.
     pub fn into_bytes(self) -> Vec<u8>
         ensures hands_the_bytes_back { result ≡ self.bytes }
     {
-        let TileFile { bytes, sides: _ } = self;
+        let Opened { bytes, sides: _ } = self;
         bytes
     }
 }
 
-impl Plane for TileFile {
-    ghost picture = { λ s. file_picture s.bytes.items };
+impl<B: AsSlice<u8>> Plane for Opened<B> {
+    ghost picture = { λ s. file_picture (B.items s.bytes) };
 
     fn rows(&self) -> usize {
         self.sides.rows as usize
@@ -52,11 +72,12 @@ impl Plane for TileFile {
     }
 
     fn read(&self, row: usize, column: usize) -> Result<i32, Fault> {
-        read_place(&self.bytes, self.sides, row, column)
+        let place = self.sides.place(row, column).ok_or(Fault::Outside)?;
+        Ok(number_of(self.bytes.as_slice(), self.sides, place))
     }
 }
 
-impl Store for TileFile {
+impl Store for Opened<Vec<u8>> {
     ghost bits = { λ s. file_bits s.bytes.items };
 
     ghost frame = { λ cleared s t. FileFrame cleared s.bytes.items t.bytes.items };
@@ -73,11 +94,14 @@ impl Store for TileFile {
         ensures writes_one_cell { PutsFile self.old.bytes.items row column number self.new.bytes.items result }
     {
         let sides = self.sides;
-        put_place(&mut self.bytes, sides, row, column, number)
+        let place = sides.place(row, column).ok_or(Fault::Outside)?;
+        put_cell(&mut self.bytes, sides, place, number);
+        Ok(())
     }
 
     fn bit(&self, row: usize, column: usize) -> Result<bool, Fault> {
-        ask_place(&self.bytes, self.sides, row, column)
+        let place = self.sides.place(row, column).ok_or(Fault::Outside)?;
+        Ok(bit_of(&self.bytes, self.sides, place))
     }
 
     // Every byte of bits of every slot becomes 0, also of the bits beyond the plate's edge.
@@ -87,7 +111,6 @@ impl Store for TileFile {
         ensures leaves_what_lies_under { FileFrame true self.old.bytes.items self.new.bytes.items }
         ensures zeroes_every_byte_of_bits { ClearsFile self.old.bytes.items self.new.bytes.items }
     {
-        let sides = self.sides;
-        clear_bits(&mut self.bytes, sides);
+        clear_bits(&mut self.bytes, self.sides);
     }
 }

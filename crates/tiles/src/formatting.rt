@@ -3,6 +3,7 @@ ghost use Rattle.std.specs.Prelude.{ℕ, ◌+◌, ◌*◌, ◌≤◌, length};
 ghost use Rattle.tile_bytes.specs.Layout.{tile_count, slots_end};
 ghost use Rattle.tiles.specs.Formatting.{Judged, Numbered, Formatted, Formats, AFormattedFileIsBlank};
 
+use crate::opening::has_bad_side;
 use faults::fault::{Fault, Layer};
 use tile_bytes::header::{write_sides, write_slot};
 use tile_bytes::sides::Sides;
@@ -12,13 +13,9 @@ use tile_bytes::slots::zero_slots;
 fn judge(rows: usize, columns: usize, length: usize) -> Result<Sides, Fault>
     ensures are_the_sides_or_the_first_fault_that_holds { Judged rows columns length result }
 {
-    if rows == 0 || rows > 4096 || columns == 0 || columns > 4096 {
-        return Err(Fault::Size(Layer::Plane));
-    }
-    let sides = Sides {
-        rows: rows as u16,
-        columns: columns as u16,
-    };
+    let sides = Sides::new(rows, columns)
+        .filter(|sides| !has_bad_side(*sides))
+        .ok_or(Fault::Size(Layer::Plane))?;
     if length < sides.file_length() {
         return Err(Fault::StoreShort);
     }

@@ -4,5 +4,4 @@
 pub mod file;
 pub mod formatting;
 pub mod opening;
-mod places;
 pub mod view;

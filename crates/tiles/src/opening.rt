@@ -1,7 +1,7 @@
 // Whether a tile file can be opened, and with which sides.
-ghost use Rattle.std.specs.Prelude.{◌≡◌, ℕ, false, ◌||◌, nat_le, slice_index_or};
+ghost use Rattle.std.specs.Prelude.{◌≡◌, ℕ, false, ◌||◌, nat_le, slice_index_or, MatchResult};
 ghost use Rattle.planes.specs.Flat.{bad_side};
-ghost use Rattle.tiles.specs.Opening.{first_bad_slot, tile_fault, height, width, AnOpenedFileIsSound};
+ghost use Rattle.tiles.specs.Opening.{rows_said, columns_said, first_bad_slot, tile_fault, height, width, AnOpenedFileIsSound};
 
 use faults::fault::{Fault, Layer};
 use tile_bytes::header::{sides_of, slot_of};
@@ -11,6 +11,12 @@ fn is_bad_side(side: u16) -> bool
     ensures is_none_or_over_the_limit { result ≡ bad_side side }
 {
     side == 0 || side > 4096
+}
+
+pub(crate) fn has_bad_side(sides: Sides) -> bool
+    ensures is_either { result ≡ (bad_side sides.rows || bad_side sides.columns) }
+{
+    is_bad_side(sides.rows) || is_bad_side(sides.columns)
 }
 
 // Whether a slot number is too large or among those seen.
@@ -35,26 +41,35 @@ fn first_bad_slot(bytes: &[u8], tiles: u32) -> u32
     tiles
 }
 
-// The fault that opening a file would meet: under four bytes, a side that is 0 or over 4,096, too few bytes for the slots, a bad slot number.
-pub fn fault(bytes: &[u8]) -> Option<Fault>
-    ensures is_the_first_that_holds { result ≡ tile_fault bytes.now }
+// The sides of a file, or the fault that opening it meets: under four bytes, a side that is 0 or over 4,096, too few bytes for the slots, a bad
+// slot number.
+fn judge(bytes: &[u8]) -> Result<Sides, Fault>
+    ensures are_the_sides_or_the_first_fault_that_holds { MatchResult result
+        (λ s. (tile_fault bytes.now ≡ None) × (s.rows ≡ rows_said bytes.now) × (s.columns ≡ columns_said bytes.now))
+        (λ e. tile_fault bytes.now ≡ Some e) }
 {
     let sides = sides_of(bytes);
     if bytes.len() < 4 {
-        return Some(Fault::StoreShort);
+        return Err(Fault::StoreShort);
     }
-    if is_bad_side(sides.rows) || is_bad_side(sides.columns) {
-        return Some(Fault::Size(Layer::Plane));
+    if has_bad_side(sides) {
+        return Err(Fault::Size(Layer::Plane));
     }
     if bytes.len() < sides.file_length() {
-        return Some(Fault::StoreShort);
+        return Err(Fault::StoreShort);
     }
     let index = first_bad_slot(bytes, sides.tiles());
     if index < sides.tiles() {
-        Some(Fault::Slot(index as usize))
-    } else {
-        None
+        return Err(Fault::Slot(index as usize));
     }
+    Ok(sides)
+}
+
+// The fault that opening a file would meet.
+pub fn fault(bytes: &[u8]) -> Option<Fault>
+    ensures is_the_first_that_holds { result ≡ tile_fault bytes.now }
+{
+    judge(bytes).err()
 }
 
 // What a file without a fault is.
@@ -63,16 +78,13 @@ pub fn an_opened_file_is_sound()
 {}
 
 // The sides of the opened file, and none where there is a fault.
+#[tactic(auto, unfolding(crate::specs::Opening::height, crate::specs::Opening::width))]
 pub(crate) fn opened_sides(bytes: &[u8]) -> Sides
     ensures has_the_rows_or_none { result.rows ≡ height bytes.now }
     ensures has_the_columns_or_none { result.columns ≡ width bytes.now }
 {
-    if fault(bytes).is_none() {
-        sides_of(bytes)
-    } else {
-        Sides {
-            rows: 0,
-            columns: 0,
-        }
-    }
+    judge(bytes).unwrap_or(Sides {
+        rows: 0,
+        columns: 0,
+    })
 }

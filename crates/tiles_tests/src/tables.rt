@@ -90,11 +90,7 @@ fn check_slots(
     write_slot(&mut bytes, 1, b);
     write_slot(&mut bytes, 2, c);
     write_slot(&mut bytes, 3, d);
-    let found = if bad < 4 {
-        Some(Fault::Slot(bad))
-    } else {
-        None
-    };
+    let found = (bad < 4).then_some(Fault::Slot(bad));
     assert_eq!(rt; fault(&bytes), found);
     assert_eq!(rt; TileView::open(&bytes).rows(), if bad < 4 { 0 } else { 17 });
     Ok(())

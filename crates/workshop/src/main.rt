@@ -24,32 +24,22 @@ fn main(rt: HostRuntime) -> ExitCode {
 fn script_of(rt: &HostRuntime) -> anyhow::Result<Script> {
     let mut text = Vec::new(rt.alloc());
     rt.stdin().read_to_end(&mut text)?;
-    match read_script(rt.alloc(), &text) {
-        Ok(script) => Ok(script),
-        Err(Trouble::Wrong(Wrong { line, mistake })) => {
-            let words = mistake.words();
-            Err(anyhow!(format!(in rt.alloc(); "line {line}: {words}")?))
-        }
-        Err(Trouble::Memory) => Err(anyhow!("there is not enough memory")),
-    }
+    read_script(rt.alloc(), &text).map_err(|trouble| match trouble {
+        Trouble::Wrong(Wrong { line, mistake }) => anyhow!("line {line}: {}", mistake.words()),
+        Trouble::Memory => anyhow!("there is not enough memory"),
+    })
 }
 
 // A path as text.
 fn name_of(path: &[u8]) -> anyhow::Result<&str> {
-    match std::str::from_utf8(path) {
-        Ok(name) => Ok(name),
-        Err(_) => Err(anyhow!("a path is not text in UTF-8")),
-    }
+    std::str::from_utf8(path).map_err(|_| anyhow!("a path is not text in UTF-8"))
 }
 
 // Whether a script ends with a saving, so that a new plate is kept in a tile file.
 fn is_saved(endings: &[Ending]) -> bool {
-    for ending in endings {
-        if let Ending::Save { path: _ } = ending {
-            return true;
-        }
-    }
-    false
+    endings
+        .iter()
+        .any(|ending| matches!(ending, Ending::Save { .. }))
 }
 
 fn perform(rt: &HostRuntime, script: &mut Script) -> anyhow::Result<Performance> {
@@ -64,10 +54,9 @@ fn perform(rt: &HostRuntime, script: &mut Script) -> anyhow::Result<Performance>
             columns,
         } => {
             if is_saved(endings) {
-                let new = perform_new_file(
+                return Ok(perform_new_file(
                     heap, *number, *kernel, *rows, *columns, turns, endings,
-                )?;
-                return Ok(new);
+                )?);
             }
             let text = perform_flat(heap, *number, *kernel, *rows, *columns, turns, endings)?;
             Ok(Performance { text, file: None })
@@ -78,12 +67,8 @@ fn perform(rt: &HostRuntime, script: &mut Script) -> anyhow::Result<Performance>
             kernel,
         } => {
             let name = name_of(path)?;
-            let bytes = match read_plate(rt, name) {
-                Ok(bytes) => bytes,
-                Err(error) => return Err(anyhow!(format!(in heap; "{name}: {error}")?)),
-            };
-            let opened = perform_file(heap, *number, *kernel, bytes, turns, endings)?;
-            Ok(opened)
+            let bytes = read_plate(rt, name).map_err(|error| anyhow!("{name}: {error}"))?;
+            Ok(perform_file(heap, *number, *kernel, bytes, turns, endings)?)
         }
     }
 }
@@ -93,9 +78,7 @@ fn save(rt: &HostRuntime, endings: &[Ending], bytes: &[u8]) -> anyhow::Result<()
     for ending in endings {
         if let Ending::Save { path } = ending {
             let name = name_of(path)?;
-            if let Err(error) = write_plate(rt, name, bytes) {
-                return Err(anyhow!(format!(in rt.alloc(); "{name}: {error}")?));
-            }
+            write_plate(rt, name, bytes).map_err(|error| anyhow!("{name}: {error}"))?;
         }
     }
     Ok(())

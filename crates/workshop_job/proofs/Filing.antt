@@ -1,5 +1,5 @@
 -- Plates over tile files, as they are and as they are made.
-use Rattle.std.proofs.Common.{◌≡◌, ℕ, ◌≤◌, cond, List, length, is_some, IfOk, Some, None, Ok, Err, Option, Result, sym, ap, ◌∙◌, subst, arith}
+use Rattle.std.proofs.Common.{◌≡◌, ℕ, ◌≤◌, cond, List, length, is_some, Some, None, Option, sym, refl, ap, ◌∙◌, subst, arith}
 use Rattle.std.proofs.lemmas.Bool.Decides.{nat_tests}
 use Rattle.faults.specs.declared.fault.Fault.{Fault}
 use Rattle.kernels.specs.declared.choice.KernelChoice.{KernelChoice}
@@ -11,9 +11,10 @@ use Rattle.tiles.specs.Files.{file_picture, file_bits}
 use Rattle.tiles.proofs.Blank.{a_formatted_file_is_blank}
 use Rattle.plates.specs.declared.calls.Turn.{Turn}
 use Rattle.plates.specs.Shows.{View}
+use Rattle.answers.specs.Lines.{fault_line}
 use Rattle.scripts.specs.declared.script.Ending.{Ending}
 use Rattle.workshop_job.specs.Performances.{Performed, blank_view}
-use Rattle.workshop_job.specs.Files.{file_view, new_length, PerformedFile, no_file, on_the_file, PerformedNewFile, on_the_new_file}
+use Rattle.workshop_job.specs.Files.{file_view, new_length, PerformedFile, no_file, on_the_file, PerformedNewFile, no_new_file, on_the_new_file}
 
 -- the bytes that were opened are those that were handed in, and those handed back are the store's
 pub filed : (n : ℕ) (k : KernelChoice) (xs zs ys ws : List ℕ) (ts us : List Turn) (es : List Ending) (text : List ℕ)
@@ -50,9 +51,11 @@ new_of_file n k R C xs ys ts us es text _ l e d (on_the_file zs g p) =
     let P : View → Type 0 = λ v. Performed v (choice_code k) ts us es (file_picture zs) (file_bits zs) text in
     on_the_new_file zs (ap (format_fault R C) (sym l) ∙ e) (subst P (blank_file n k R C xs ys e d) p)
 
--- the same of an answer that may be want of memory
-pub new_of_answer : {X E : Type 0} (r : Result X E) (f : X → List ℕ) (g : X → Option (List ℕ)) (n : ℕ) (k : KernelChoice) (R C : ℕ) (xs ys : List ℕ) (ts us : List Turn) (es : List Ending)
-    → length xs ≡ new_length R C → format_fault R C (length xs) ≡ None → Formatted R C xs ys
-    → IfOk r (λ x. PerformedFile n k ys ts us es (f x) (g x)) → IfOk r (λ x. PerformedNewFile n k R C ts us es (f x) (g x))
-new_of_answer (Ok x) f g n k R C xs ys ts us es l e d m = new_of_file n k R C xs ys ts us es (f x) (g x) l e d m
-new_of_answer (Err x) f g n k R C xs ys ts us es l e d m = tt
+-- where there is no file, its fault is printed
+pub refused : (n : ℕ) (k : KernelChoice) (xs : List ℕ) (ts : List Turn) (es : List Ending) (f : Fault) (text : List ℕ) (o : Option (List ℕ))
+    → tile_fault xs ≡ Some f → text ≡ fault_line f → o ≡ None → PerformedFile n k xs ts ts es text o
+refused n k xs ts es f text o e t q = rw q (no_file f e refl t)
+
+pub new_refused : (n : ℕ) (k : KernelChoice) (R C L : ℕ) (ts : List Turn) (es : List Ending) (f : Fault) (text : List ℕ) (o : Option (List ℕ))
+    → L ≡ new_length R C → format_fault R C L ≡ Some f → text ≡ fault_line f → o ≡ None → PerformedNewFile n k R C ts ts es text o
+new_refused n k R C L ts es f text o l e t q = rw q (no_new_file f (ap (format_fault R C) (sym l) ∙ e) refl t)

@@ -1,10 +1,12 @@
 // A list of calls on a plate over a tile file.
-ghost use Rattle.std.specs.Prelude.{◌≡◌, IfOk, vec_items};
+ghost use Rattle.std.specs.Prelude.{◌≡◌, IfOk, None, vec_items};
 ghost use Rattle.std.specs.Option.{option_map};
+ghost use Rattle.answers.specs.Lines.{fault_line};
 ghost use Rattle.workshop_job.specs.Files.{new_length, PerformedFile, PerformedNewFile};
 
 use crate::perform::perform;
 use answers::lines::fault_line;
+use faults::fault::Fault;
 use kernels::choice::KernelChoice;
 use plates::calls::Turn;
 use scripts::script::Ending;
@@ -20,6 +22,14 @@ pub struct Performance {
     pub file: Option<Vec<u8>>,
 }
 
+// What is printed where there is no file: the fault alone.
+fn declined(heap: Global, fault: Fault) -> Result<Performance, AllocError>
+    ensures prints_the_fault { IfOk result (λ x. (x.text.items ≡ fault_line fault) × (x.file ≡ None)) }
+{
+    let text = fault_line(heap, fault)?.into_bytes();
+    Ok(Performance { text, file: None })
+}
+
 // Executes the calls on a plate over a tile file; where the bytes are no such file, its fault is all that is printed.
 pub fn perform_file(
     heap: Global,
@@ -32,10 +42,7 @@ pub fn perform_file(
     ensures after_every_call_nothing_differs { IfOk result (λ x. PerformedFile number kernel bytes.items turns.old turns.new endings.now x.text.items (option_map vec_items x.file)) }
 {
     match tiles::opening::fault(&bytes) {
-        Some(fault) => {
-            let text = fault_line(heap, fault)?.into_bytes();
-            Ok(Performance { text, file: None })
-        }
+        Some(fault) => declined(heap, fault),
         None => {
             let store = TileFile::open(bytes);
             let (text, store) = perform(heap, number, store, kernel, turns, endings)?;
@@ -49,14 +56,7 @@ pub fn perform_file(
 fn new_length(rows: usize, columns: usize) -> usize
     ensures is_the_length_of_a_file { result ≡ new_length rows columns }
 {
-    if rows > 4096 || columns > 4096 {
-        return 0;
-    }
-    let sides = Sides {
-        rows: rows as u16,
-        columns: columns as u16,
-    };
-    sides.file_length()
+    Sides::new(rows, columns).map_or(0, |sides| sides.file_length())
 }
 
 // Executes the calls on a plate over a new tile file, whose cells are 0 and whose bits are unset; where there can be no such file, its fault
@@ -75,9 +75,6 @@ pub fn perform_new_file(
     let mut bytes = vec![in heap; 0u8; new_length(rows, columns)]?;
     match format(&mut bytes, rows, columns) {
         Ok(()) => perform_file(heap, number, kernel, bytes, turns, endings),
-        Err(fault) => {
-            let text = fault_line(heap, fault)?.into_bytes();
-            Ok(Performance { text, file: None })
-        }
+        Err(fault) => declined(heap, fault),
     }
 }

@@ -1,13 +1,16 @@
-use Rattle.std.proofs.Common.{vec_items, sym, refl, ap, ◌∙◌}
+use Rattle.std.proofs.Common.{vec_items, sym, ap, ◌∙◌}
+use Rattle.std.specs.Option.{option_map}
+use Rattle.std.proofs.lemmas.Result.{IfOk-weaker}
 use Rattle.tiles.specs.Opening.{tile_fault}
-use Rattle.workshop_job.specs.Files.{no_file}
-use Rattle.workshop_job.proofs.Filing.{filed}
+use Rattle.workshop_job.proofs.Filing.{filed, refused}
 use Rattle.workshop_job.proofs.filed.perform_file.Goals as goal
 
-pub returns-in_ok-fault_line-in-Some : goal.returns-in_ok-fault_line-in-Some
-returns-in_ok-fault_line-in-Some c = record {
-  after_every_call_nothing_differs = no_file c.in-Some.fault (ap tile_fault (sym c.deref.ensures.value) ∙ sym c.in-Some.ensures.is_the_first_that_holds) refl
-      (ap vec_items c.into_bytes-text.ensures.value ∙ c.in_ok-fault_line-in-Some.ensures.is_the_line_of_the_fault);
+pub returns-in-Some : goal.returns-in-Some
+returns-in-Some c = record {
+  after_every_call_nothing_differs = IfOk-weaker c.declined.result _ _
+      (λ x p. refused c.args.number c.args.kernel (vec_items c.args.bytes) c.args.turns.now c.args.endings.now c.in-Some.fault (vec_items x.text) (option_map vec_items x.file)
+      (ap tile_fault (sym c.deref.ensures.value) ∙ sym c.in-Some.ensures.is_the_first_that_holds) p.0 (ap (option_map vec_items) p.1))
+      c.declined.ensures.prints_the_fault;
 }
 
 pub returns-in_ok-text-in-None : goal.returns-in_ok-text-in-None

@@ -3,8 +3,8 @@ use Rattle.std.proofs.Common.{◌≡◌, length, sym, ◌∙◌, arith}
 use Rattle.std.proofs.lemmas.List.{with_items_is}
 use Rattle.std.specs.Vec.{with_items}
 use Rattle.tiles.proofs.Stores.{StoreCleared, cleared_through}
-use Rattle.tiles.proofs.file.TileFileStore.clear.Goals as goal
-use Rattle.tiles.proofs.file.TileFileStore.clear.Goals.{After-clear_bits}
+use Rattle.tiles.proofs.file.OpenedVecU8Store.clear.Goals as goal
+use Rattle.tiles.proofs.file.OpenedVecU8Store.clear.Goals.{After-clear_bits}
 
 done : (c : After-clear_bits) → StoreCleared c.args.self.now.bytes.items (with_items c.args.self.now.bytes c.clear_bits.new.bytes).items
 done c =
