@@ -1,8 +1,9 @@
 // A mistake in words.
-ghost use Rattle.std.specs.Prelude.{◌≡◌};
+ghost use Rattle.std.specs.Prelude.{◌≡◌, Some};
 ghost use Rattle.script_arguments.specs.Mistakes.{mistake_words};
 
 use crate::mistake::Mistake;
+use std::fmt;
 
 impl Mistake {
     // What is wrong, for people.
@@ -22,5 +23,13 @@ impl Mistake {
             Mistake::CallAfterEnding => "no call may follow sheet or save",
             Mistake::NoPlate => "the script has no plate",
         }
+    }
+}
+
+impl fmt::Display for Mistake {
+    ghost output = { λ m. Some (mistake_words m) };
+
+    fn fmt<W: fmt::Write>(&self, f: &mut fmt::Formatter<W>) -> fmt::Result {
+        f.write_str(self.words())
     }
 }
