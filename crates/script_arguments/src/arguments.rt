@@ -1,5 +1,5 @@
 // The words and the numbers after a command's name.
-ghost use Rattle.std.specs.Prelude.{◌≡◌, ℕ, List, Ok, Err, vec_items, MatchResult};
+ghost use Rattle.std.specs.Prelude.{◌≡◌, vec_items};
 ghost use Rattle.std.specs.Option.{ok_or};
 ghost use Rattle.script_words.specs.Words.{words};
 ghost use Rattle.script_arguments.specs.declared.mistake.Mistake.TheVariants as mistake;

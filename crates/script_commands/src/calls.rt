@@ -1,5 +1,5 @@
 // The commands that have numbers alone: the eight calls, and the sheet.
-ghost use Rattle.std.specs.Prelude.{◌≡◌, ℕ, length, drop, IfOk, if◌then◌else◌, Ok, nat_lt};
+ghost use Rattle.std.specs.Prelude.{◌≡◌, length, IfOk, if◌then◌else◌, Ok, nat_lt};
 ghost use Rattle.script_arguments.specs.declared.names.CallName.TheVariants as called;
 ghost use Rattle.script_arguments.specs.declared.mistake.Mistake.TheVariants as mistake;
 ghost use Rattle.script_commands.specs.Commands.{buffer_length, blank_records, zeros};
@@ -59,32 +59,22 @@ fn wrong_count(numbers: &[u32], due: usize) -> Flaw
     }
 }
 
-// The numbers from an index on.
-fn from_index(numbers: &[u32], index: usize) -> &[u32]
-    ensures are_the_numbers_from_there_on { result.now ≡ drop index numbers.now }
-{
-    if index <= numbers.len() {
-        &numbers[index..]
-    } else {
-        &[]
-    }
-}
-
 // lay ROWS COLUMNS TOP LEVELS SAMPLE..
 fn lay_of(heap: Global, numbers: &[u32]) -> Result<Call, Flaw>
     ensures is_the_laying_or_the_mistake { Reads meaning result (call_of called.Lay numbers.now) }
 {
-    let [rows, columns, top, levels, ..] = numbers else {
+    let [rows, columns, top, levels, samples @ ..] = numbers else {
         return Err(Flaw::Mistake(Mistake::MissingWord));
     };
-    let plan = Plan {
-        rows: *rows as usize,
-        columns: *columns as usize,
-        top: *top as usize,
-        levels: *levels as usize,
-    };
-    let samples = samples_of(heap, from_index(numbers, 4))?;
-    Ok(Call::Lay { plan, samples })
+    Ok(Call::Lay {
+        plan: Plan {
+            rows: *rows as usize,
+            columns: *columns as usize,
+            top: *top as usize,
+            levels: *levels as usize,
+        },
+        samples: samples_of(heap, samples)?,
+    })
 }
 
 // lease ROW COLUMN HEIGHT WIDTH
@@ -108,10 +98,10 @@ fn lease_of(numbers: &[u32]) -> Result<Call, Flaw>
 fn settle_of(heap: Global, numbers: &[u32]) -> Result<Call, Flaw>
     ensures is_the_settling_or_the_mistake { Reads meaning result (call_of called.Settle numbers.now) }
 {
-    let [plate, serial, records, ..] = numbers else {
+    let [plate, serial, records, samples @ ..] = numbers else {
         return Err(Flaw::Mistake(Mistake::MissingWord));
     };
-    let samples = samples_of(heap, from_index(numbers, 3))?;
+    let samples = samples_of(heap, samples)?;
     let scratch = scratch_of(heap, *records)?;
     Ok(Call::Settle {
         plate: *plate,
@@ -209,11 +199,8 @@ pub(crate) fn sheet_of(numbers: &[u32]) -> Result<Ending, Flaw>
     let [issue, room] = numbers else {
         return Err(wrong_count(numbers, 2));
     };
-    match u16::try_from(*issue) {
-        Ok(issue) => Ok(Ending::Sheet {
-            issue,
-            room: *room as usize,
-        }),
-        Err(_) => Err(Flaw::Mistake(Mistake::IssueTooLarge)),
-    }
+    Ok(Ending::Sheet {
+        issue: u16::try_from(*issue).map_err(|_| Mistake::IssueTooLarge)?,
+        room: *room as usize,
+    })
 }
