@@ -11,7 +11,7 @@ use crate::mistake::Mistake;
 use crate::names::kernel_of;
 use kernels::choice::KernelChoice;
 use script_words::numbers::number_of;
-use script_words::pieces::next_word;
+use script_words::pieces::{Words, next_word};
 use std::alloc::Global;
 
 // The first word, and the line after it.
@@ -55,10 +55,8 @@ pub fn numbers_of(heap: Global, line: &[u8]) -> Result<Vec<u32>, Flaw>
     ensures are_the_numbers_of_all_words { Reads vec_items result (ok_or (numbers (words line.now)) mistake.NotANumber) }
 {
     let mut all = Vec::new(heap);
-    let mut rest = line;
-    while let Some((word, after)) = next_word(rest) {
+    for word in Words(line) {
         all.push(number_of(word).ok_or(Mistake::NotANumber)?)?;
-        rest = after;
     }
     Ok(all)
 }

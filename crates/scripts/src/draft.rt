@@ -45,18 +45,15 @@ impl Draft {
     }
 
     // The draft with its first command, if it had none.
-    fn with_opening(self, opening: Opening) -> Result<Draft, Flaw>
+    fn with_opening(mut self, opening: Opening) -> Result<Draft, Flaw>
         ensures has_the_opening_or_had_one { Reads draft_meaning result (added (draft_meaning self) (command_meaning (Command.Opening opening))) }
         ensures waits { AllPending self.turns.items → IfOk result (λ d. AllPending d.turns.items) }
     {
         if self.opening.is_some() {
             return Err(Flaw::Mistake(Mistake::OpeningRepeated));
         }
-        Ok(Draft {
-            opening: Some(opening),
-            turns: self.turns,
-            endings: self.endings,
-        })
+        self.opening = Some(opening);
+        Ok(self)
     }
 
     // The draft with one more call, if one may stand there.
@@ -111,16 +108,14 @@ impl Draft {
             turns,
             endings,
         } = self;
-        match opening {
-            None => Err(Trouble::Wrong(Wrong {
-                line,
-                mistake: Mistake::NoPlate,
-            })),
-            Some(opening) => Ok(Script {
-                opening,
-                turns,
-                endings,
-            }),
-        }
+        let opening = opening.ok_or(Trouble::Wrong(Wrong {
+            line,
+            mistake: Mistake::NoPlate,
+        }))?;
+        Ok(Script {
+            opening,
+            turns,
+            endings,
+        })
     }
 }

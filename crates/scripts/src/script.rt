@@ -8,7 +8,7 @@ use crate::draft::{Draft, trouble_at};
 use plates::calls::Turn;
 pub use script_arguments::mistake::Mistake;
 pub use script_commands::values::{Ending, Opening};
-use script_words::pieces::next_line;
+use script_words::pieces::Lines;
 use std::alloc::{AllocError, AllocFailed, Global};
 
 // The calls of a script wait for their answers.
@@ -50,18 +50,16 @@ impl<T: Drop> From<AllocFailed<T>> for Trouble {
 }
 
 // The script that a text states. Lines end at byte 10 and words at spaces; the first line in error is the one reported.
+#[tactic(auto, using(std::proofs::lemmas::Grind::common_steps, crate::proofs::Drafts::texts))]
 pub fn read_script(heap: Global, text: &[u8]) -> Result<Script, Trouble>
     ensures is_the_script_or_its_first_line_in_error { ScriptRead result (script_of text.now) }
 {
     let mut draft = Draft::new(heap);
-    let mut rest = text;
     let mut line = 1usize;
-    while let Some((words, after)) = next_line(rest) {
-        draft = match draft.with_line(heap, words) {
-            Ok(longer) => longer,
-            Err(flaw) => return Err(trouble_at(line, flaw)),
-        };
-        rest = after;
+    for words in Lines(text) {
+        draft = draft
+            .with_line(heap, words)
+            .map_err(|flaw| trouble_at(line, flaw))?;
         line += 1;
     }
     draft.into_script(line)

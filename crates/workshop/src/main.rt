@@ -2,7 +2,7 @@
 #![tactic(auto)]
 
 use anyhow::anyhow;
-use scripts::script::{Ending, Opening, Script, Trouble, Wrong, read_script};
+use scripts::script::{Ending, Opening, Script, read_script};
 use std::io::{Read, Write};
 use std::process::ExitCode;
 use tile_disk::{read_plate, write_plate};
@@ -24,14 +24,7 @@ fn main(rt: HostRuntime) -> ExitCode {
 fn script_of(rt: &HostRuntime) -> anyhow::Result<Script> {
     let mut text = Vec::new(rt.alloc());
     rt.stdin().read_to_end(&mut text)?;
-    match read_script(rt.alloc(), &text) {
-        Ok(script) => Ok(script),
-        Err(Trouble::Wrong(Wrong { line, mistake })) => {
-            let words = mistake.words();
-            Err(anyhow!(format!(in rt.alloc(); "line {line}: {words}")?))
-        }
-        Err(Trouble::Memory) => Err(anyhow!("there is not enough memory")),
-    }
+    Ok(read_script(rt.alloc(), &text)?)
 }
 
 // A path as text.
