@@ -103,19 +103,14 @@ impl Draft {
     pub(crate) fn into_script(self, line: usize) -> Result<Script, Trouble>
         ensures is_the_script_if_it_has_a_plate { AllPending self.turns.items → ScriptRead result (concluded (draft_meaning self).start_so_far (draft_meaning self).requests_so_far (draft_meaning self).finishes_so_far line) }
     {
-        let Draft {
-            opening,
-            turns,
-            endings,
-        } = self;
-        let opening = opening.ok_or(Trouble::Wrong(Wrong {
+        let opening = self.opening.ok_or(Trouble::Wrong(Wrong {
             line,
             mistake: Mistake::NoPlate,
         }))?;
         Ok(Script {
             opening,
-            turns,
-            endings,
+            turns: self.turns,
+            endings: self.endings,
         })
     }
 }
