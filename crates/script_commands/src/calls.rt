@@ -49,13 +49,13 @@ fn output_of(heap: Global, room: u32) -> Result<Vec<i32>, AllocError>
 }
 
 // Why there are not as many numbers as are due.
-fn wrong_count(numbers: &[u32], due: usize) -> Flaw
-    ensures is_missing_or_too_many { result ≡ Flaw.Mistake (if nat_lt (length numbers.now) due then mistake.MissingWord else mistake.TooManyWords) }
+fn wrong_count(numbers: &[u32], due: usize) -> Mistake
+    ensures is_missing_or_too_many { result ≡ (if nat_lt (length numbers.now) due then mistake.MissingWord else mistake.TooManyWords) }
 {
     if numbers.len() < due {
-        Flaw::Mistake(Mistake::MissingWord)
+        Mistake::MissingWord
     } else {
-        Flaw::Mistake(Mistake::TooManyWords)
+        Mistake::TooManyWords
     }
 }
 
@@ -64,7 +64,7 @@ fn lay_of(heap: Global, numbers: &[u32]) -> Result<Call, Flaw>
     ensures is_the_laying_or_the_mistake { Reads meaning result (call_of called.Lay numbers.now) }
 {
     let [rows, columns, top, levels, samples @ ..] = numbers else {
-        return Err(Flaw::Mistake(Mistake::MissingWord));
+        return Err(Mistake::MissingWord.into());
     };
     Ok(Call::Lay {
         plan: Plan {
@@ -82,7 +82,7 @@ fn lease_of(numbers: &[u32]) -> Result<Call, Flaw>
     ensures is_the_leasing_or_the_mistake { Reads meaning result (call_of called.Lease numbers.now) }
 {
     let [row, column, height, width] = numbers else {
-        return Err(wrong_count(numbers, 4));
+        return Err(wrong_count(numbers, 4).into());
     };
     Ok(Call::Lease {
         first: PlatePlace {
@@ -99,7 +99,7 @@ fn settle_of(heap: Global, numbers: &[u32]) -> Result<Call, Flaw>
     ensures is_the_settling_or_the_mistake { Reads meaning result (call_of called.Settle numbers.now) }
 {
     let [plate, serial, records, samples @ ..] = numbers else {
-        return Err(Flaw::Mistake(Mistake::MissingWord));
+        return Err(Mistake::MissingWord.into());
     };
     let samples = samples_of(heap, samples)?;
     let scratch = scratch_of(heap, *records)?;
@@ -116,7 +116,7 @@ fn surrender_of(numbers: &[u32]) -> Result<Call, Flaw>
     ensures is_the_surrender_or_the_mistake { Reads meaning result (call_of called.Surrender numbers.now) }
 {
     let [plate, serial] = numbers else {
-        return Err(wrong_count(numbers, 2));
+        return Err(wrong_count(numbers, 2).into());
     };
     Ok(Call::Surrender {
         plate: *plate,
@@ -129,7 +129,7 @@ fn preview_of(heap: Global, numbers: &[u32]) -> Result<Call, Flaw>
     ensures is_the_preview_or_the_mistake { Reads meaning result (call_of called.Preview numbers.now) }
 {
     let [level, row, column, height, width, records, room] = numbers else {
-        return Err(wrong_count(numbers, 7));
+        return Err(wrong_count(numbers, 7).into());
     };
     let scratch = scratch_of(heap, *records)?;
     let output = output_of(heap, *room)?;
@@ -153,7 +153,7 @@ fn read_of(numbers: &[u32]) -> Result<Call, Flaw>
     ensures is_the_reading_or_the_mistake { Reads meaning result (call_of called.Read numbers.now) }
 {
     let [level, row, column] = numbers else {
-        return Err(wrong_count(numbers, 3));
+        return Err(wrong_count(numbers, 3).into());
     };
     Ok(Call::Read {
         card: Card {
@@ -172,7 +172,7 @@ fn alone(numbers: &[u32], call: Call) -> Result<Call, Flaw>
 {
     match numbers {
         [] => Ok(call),
-        _ => Err(Flaw::Mistake(Mistake::TooManyWords)),
+        _ => Err(Mistake::TooManyWords.into()),
     }
 }
 
@@ -197,7 +197,7 @@ pub(crate) fn sheet_of(numbers: &[u32]) -> Result<Ending, Flaw>
     ensures is_the_sheet_or_the_mistake { Reads finish_meaning result (sheet_of numbers.now) }
 {
     let [issue, room] = numbers else {
-        return Err(wrong_count(numbers, 2));
+        return Err(wrong_count(numbers, 2).into());
     };
     Ok(Ending::Sheet {
         issue: u16::try_from(*issue).map_err(|_| Mistake::IssueTooLarge)?,

@@ -18,7 +18,7 @@ pub(crate) fn trouble_at(line: usize, flaw: Flaw) -> Trouble
     ensures has_the_lines_number { result ≡ trouble_at line flaw }
 {
     match flaw {
-        Flaw::Mistake(mistake) => Trouble::Wrong(Wrong { line, mistake }),
+        Flaw::Error(mistake) => Trouble::Error(Wrong { line, mistake }),
         Flaw::Memory => Trouble::Memory,
     }
 }
@@ -50,7 +50,7 @@ impl Draft {
         ensures waits { AllPending self.turns.items → IfOk result (λ d. AllPending d.turns.items) }
     {
         if self.opening.is_some() {
-            return Err(Flaw::Mistake(Mistake::OpeningRepeated));
+            return Err(Mistake::OpeningRepeated.into());
         }
         self.opening = Some(opening);
         Ok(self)
@@ -62,10 +62,10 @@ impl Draft {
         ensures waits { AllPending self.turns.items → IfOk result (λ d. AllPending d.turns.items) }
     {
         if self.opening.is_none() {
-            return Err(Flaw::Mistake(Mistake::OpeningMissing));
+            return Err(Mistake::OpeningMissing.into());
         }
         if !self.endings.is_empty() {
-            return Err(Flaw::Mistake(Mistake::CallAfterEnding));
+            return Err(Mistake::CallAfterEnding.into());
         }
         self.turns.push(Turn {
             call,
@@ -80,7 +80,7 @@ impl Draft {
         ensures waits { AllPending self.turns.items → IfOk result (λ d. AllPending d.turns.items) }
     {
         if self.opening.is_none() {
-            return Err(Flaw::Mistake(Mistake::OpeningMissing));
+            return Err(Mistake::OpeningMissing.into());
         }
         self.endings.push(ending)?;
         Ok(self)
@@ -103,7 +103,7 @@ impl Draft {
     pub(crate) fn into_script(self, line: usize) -> Result<Script, Trouble>
         ensures is_the_script_if_it_has_a_plate { AllPending self.turns.items → ScriptRead result (concluded (draft_meaning self).start_so_far (draft_meaning self).requests_so_far (draft_meaning self).finishes_so_far line) }
     {
-        let opening = self.opening.ok_or(Trouble::Wrong(Wrong {
+        let opening = self.opening.ok_or(Trouble::Error(Wrong {
             line,
             mistake: Mistake::NoPlate,
         }))?;

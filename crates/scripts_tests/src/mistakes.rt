@@ -12,7 +12,7 @@ fn check_wrong(
     mistake: Mistake,
 ) -> Result<(), Fail> {
     let trouble = read_script(heap, text).err();
-    assert_eq!(rt; trouble, Some(Trouble::Wrong(Wrong { line, mistake })));
+    assert_eq!(rt; trouble, Some(Trouble::Error(Wrong { line, mistake })));
     Ok(())
 }
 
