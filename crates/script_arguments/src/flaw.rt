@@ -1,6 +1,6 @@
 // Why a line gives no command, before its number is known.
 ghost use Rattle.std.specs.Prelude.{◌≡◌};
-ghost use Rattle.script_arguments.specs.declared.flaw.OrMemory.TheVariants as fault;
+ghost use Rattle.script_arguments.specs.declared.flaw.OrMemory.TheVariants as flaw;
 
 use crate::mistake::Mistake;
 use std::alloc::{AllocError, AllocFailed};
@@ -16,7 +16,7 @@ pub enum OrMemory<E> {
 pub type Flaw = OrMemory<Mistake>;
 
 impl From<Mistake> for Flaw {
-    ghost from_gives = { λ m r. r ≡ fault.Error m };
+    ghost from_gives = { λ m r. r ≡ flaw.Error m };
 
     fn from(mistake: Mistake) -> Flaw {
         OrMemory::Error(mistake)
@@ -24,7 +24,7 @@ impl From<Mistake> for Flaw {
 }
 
 impl<E> From<AllocError> for OrMemory<E> {
-    ghost from_gives = { λ _ r. r ≡ fault.Memory };
+    ghost from_gives = { λ _ r. r ≡ flaw.Memory };
 
     fn from(_e: AllocError) -> OrMemory<E> {
         OrMemory::Memory
@@ -32,7 +32,7 @@ impl<E> From<AllocError> for OrMemory<E> {
 }
 
 impl<E, T: Drop> From<AllocFailed<T>> for OrMemory<E> {
-    ghost from_gives = { λ _ r. r ≡ fault.Memory };
+    ghost from_gives = { λ _ r. r ≡ flaw.Memory };
 
     fn from(_e: AllocFailed<T>) -> OrMemory<E> {
         OrMemory::Memory

@@ -6,7 +6,7 @@ use Rattle.std.specs.List.{AllByRecursion}
 use Rattle.plates.specs.declared.calls.Answer.TheVariants.{Pending}
 use Rattle.plates.specs.declared.calls.Turn.{Turn}
 use Rattle.script_arguments.specs.declared.flaw.OrMemory.{OrMemory}
-use Rattle.script_arguments.specs.declared.flaw.OrMemory.TheVariants as fault
+use Rattle.script_arguments.specs.declared.flaw.OrMemory.TheVariants as flaw
 use Rattle.script_arguments.specs.declared.mistake.Mistake.{Mistake}
 use Rattle.scripts.specs.declared.script.Script.{Script}
 use Rattle.scripts.specs.declared.script.Wrong.{Wrong}
@@ -38,10 +38,10 @@ AllPending ts = AllByRecursion (λ t. t.answer ≡ Pending) ts
 -- What the reading of a script promises: the commands of the text, or its first line in error; of want of memory nothing is said.
 abbrev pub ScriptRead : Result Script (OrMemory Wrong) → Result Commands Wrong → Type 0
 ScriptRead (Ok s) told = (told ≡ Ok (script_meaning s)) × AllPending (vec_items s.turns)
-ScriptRead (Err (fault.Error w)) told = told ≡ Err w
-ScriptRead (Err fault.Memory) told = Unit {0}
+ScriptRead (Err (flaw.Error w)) told = told ≡ Err w
+ScriptRead (Err flaw.Memory) told = Unit {0}
 
 -- A flaw in a line.
 abbrev pub trouble_at : ℕ → OrMemory Mistake → OrMemory Wrong
-trouble_at line (fault.Error m) = fault.Error (record { line = line; mistake = m })
-trouble_at line fault.Memory = fault.Memory
+trouble_at line (flaw.Error m) = flaw.Error (record { line = line; mistake = m })
+trouble_at line flaw.Memory = flaw.Memory
