@@ -1,5 +1,7 @@
--- A mistake in words, as bytes of text.
-use Rattle.std.specs.Prelude.{ℕ, List, codes}
+-- A mistake and want of memory in words, as bytes of text.
+use Rattle.std.specs.Prelude.{ℕ, List, Some, codes, Option}
+use Rattle.script_arguments.specs.declared.flaw.OrMemory.{OrMemory}
+use Rattle.script_arguments.specs.declared.flaw.OrMemory.TheVariants.{Error, Memory}
 use Rattle.script_arguments.specs.declared.mistake.Mistake.{Mistake}
 use Rattle.script_arguments.specs.declared.mistake.Mistake.TheVariants.{NoSuchCommand, MissingWord, TooManyWords, NotANumber, SampleTooLarge, IssueTooLarge, NoSuchKernel, OpeningMissing, OpeningRepeated, CallAfterEnding, NoPlate}
 
@@ -15,3 +17,8 @@ mistake_words OpeningMissing = codes "the first command must be plate or open"
 mistake_words OpeningRepeated = codes "plate or open comes once"
 mistake_words CallAfterEnding = codes "no call may follow sheet or save"
 mistake_words NoPlate = codes "the script has no plate"
+
+-- an error's words, if it has any, or those of want of memory
+abbrev pub error_words : {E : Type 0} → (E → Option (List ℕ)) → OrMemory E → Option (List ℕ)
+error_words words (Error e) = words e
+error_words words Memory = Some (codes "there is not enough memory")

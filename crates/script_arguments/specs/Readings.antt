@@ -2,15 +2,15 @@
 use Rattle.std.specs.Prelude.{◌≡◌, ℕ, List, Ok, Err, Result}
 use Rattle.std.specs.Borrow.{Bor}
 use Rattle.script_words.specs.Words.{words}
-use Rattle.script_arguments.specs.declared.flaw.Flaw.{Flaw}
-use Rattle.script_arguments.specs.declared.flaw.Flaw.TheVariants as flaw
+use Rattle.script_arguments.specs.declared.flaw.OrMemory.{OrMemory}
+use Rattle.script_arguments.specs.declared.flaw.OrMemory.TheVariants as flaw
 use Rattle.script_arguments.specs.declared.mistake.Mistake.{Mistake}
 use Rattle.script_arguments.specs.Arguments.{Reading}
 
 -- The value's meaning is what the part of the line states, or the mistake is the line's.
-abbrev pub Reads : {X Y : Type 0} → (X → Y) → Result X Flaw → Reading Y → Type 0
+abbrev pub Reads : {X Y E : Type 0} → (X → Y) → Result X (OrMemory E) → Result Y E → Type 0
 Reads means (Ok x) told = told ≡ Ok (means x)
-Reads means (Err (flaw.Mistake m)) told = told ≡ Err m
+Reads means (Err (flaw.Error e)) told = told ≡ Err e
 Reads means (Err flaw.Memory) told = Unit {0}
 
 -- The same of a part from the front, with the words after it.

@@ -1,5 +1,5 @@
 // The words and the numbers after a command's name.
-ghost use Rattle.std.specs.Prelude.{◌≡◌, ℕ, List, Ok, Err, vec_items, MatchResult};
+ghost use Rattle.std.specs.Prelude.{◌≡◌, vec_items};
 ghost use Rattle.std.specs.Option.{ok_or};
 ghost use Rattle.script_words.specs.Words.{words};
 ghost use Rattle.script_arguments.specs.declared.mistake.Mistake.TheVariants as mistake;
@@ -11,43 +11,32 @@ use crate::mistake::Mistake;
 use crate::names::kernel_of;
 use kernels::choice::KernelChoice;
 use script_words::numbers::number_of;
-use script_words::pieces::next_word;
+use script_words::pieces::{Words, next_word};
 use std::alloc::Global;
 
 // The first word, and the line after it.
 pub fn first_word(line: &[u8]) -> Result<(&[u8], &[u8]), Mistake>
     ensures is_the_first_word_or_misses_it { Takes (λ w. w.now) result (first_word (words line.now)) }
 {
-    match next_word(line) {
-        Some((word, rest)) => Ok((word, rest)),
-        None => Err(Mistake::MissingWord),
-    }
+    next_word(line).ok_or(Mistake::MissingWord)
 }
 
 // The first word as a number, and the line after it.
 pub fn first_number(line: &[u8]) -> Result<(u32, &[u8]), Mistake>
     ensures is_the_first_number_or_misses_it { Takes (λ n. n) result (first_number (words line.now)) }
 {
-    let Some((word, rest)) = next_word(line) else {
-        return Err(Mistake::MissingWord);
-    };
-    match number_of(word) {
-        Some(number) => Ok((number, rest)),
-        None => Err(Mistake::NotANumber),
-    }
+    let (word, rest) = first_word(line)?;
+    let number = number_of(word).ok_or(Mistake::NotANumber)?;
+    Ok((number, rest))
 }
 
 // The first word as a kernel, and the line after it.
 pub fn first_kernel(line: &[u8]) -> Result<(KernelChoice, &[u8]), Mistake>
     ensures is_the_first_kernel_or_misses_it { Takes (λ k. k) result (first_kernel (words line.now)) }
 {
-    let Some((word, rest)) = next_word(line) else {
-        return Err(Mistake::MissingWord);
-    };
-    match kernel_of(word) {
-        Some(kernel) => Ok((kernel, rest)),
-        None => Err(Mistake::NoSuchKernel),
-    }
+    let (word, rest) = first_word(line)?;
+    let kernel = kernel_of(word).ok_or(Mistake::NoSuchKernel)?;
+    Ok((kernel, rest))
 }
 
 // That no word is left.
@@ -61,30 +50,25 @@ pub fn no_more(line: &[u8]) -> Result<(), Mistake>
 }
 
 // Every word as a number.
+#[tactic(auto, using(std::proofs::lemmas::Grind::common_steps, crate::proofs::Lists::words_as_numbers))]
 pub fn numbers_of(heap: Global, line: &[u8]) -> Result<Vec<u32>, Flaw>
     ensures are_the_numbers_of_all_words { Reads vec_items result (ok_or (numbers (words line.now)) mistake.NotANumber) }
 {
     let mut all = Vec::new(heap);
-    let mut rest = line;
-    while let Some((word, after)) = next_word(rest) {
-        let Some(number) = number_of(word) else {
-            return Err(Flaw::Mistake(Mistake::NotANumber));
-        };
-        all.push(number)?;
-        rest = after;
+    for word in Words(line) {
+        all.push(number_of(word).ok_or(Mistake::NotANumber)?)?;
     }
     Ok(all)
 }
 
 // Numbers as samples.
+#[tactic(auto, using(std::proofs::lemmas::Bool::Decides::nat_tests, crate::proofs::Lists::numbers_as_samples))]
 pub fn samples_of(heap: Global, numbers: &[u32]) -> Result<Vec<u16>, Flaw>
     ensures are_the_numbers_if_all_are_samples { Reads vec_items result (samples numbers.now) }
 {
     let mut samples = Vec::with_capacity(heap, numbers.len())?;
     for number in numbers {
-        let Ok(sample) = u16::try_from(*number) else {
-            return Err(Flaw::Mistake(Mistake::SampleTooLarge));
-        };
+        let sample = u16::try_from(*number).map_err(|_| Mistake::SampleTooLarge)?;
         samples.push(sample)?;
     }
     Ok(samples)

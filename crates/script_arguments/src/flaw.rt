@@ -1,37 +1,40 @@
 // Why a line gives no command, before its number is known.
 ghost use Rattle.std.specs.Prelude.{◌≡◌};
-ghost use Rattle.script_arguments.specs.declared.flaw.Flaw.TheVariants as flaw;
+ghost use Rattle.script_arguments.specs.declared.flaw.OrMemory.TheVariants as flaw;
 
 use crate::mistake::Mistake;
 use std::alloc::{AllocError, AllocFailed};
 
-// A mistake of the line, or want of memory.
-#[derive(Clone, Copy)]
-pub enum Flaw {
-    Mistake(Mistake),
+// An error, or want of memory in its place.
+#[derive(Clone, Copy, PartialEq, Eq, Debug, Drop)]
+pub enum OrMemory<E> {
+    Error(E),
     Memory,
 }
 
+// A mistake of the line, or want of memory.
+pub type Flaw = OrMemory<Mistake>;
+
 impl From<Mistake> for Flaw {
-    ghost from_gives = { λ m r. r ≡ flaw.Mistake m };
+    ghost from_gives = { λ m r. r ≡ flaw.Error m };
 
     fn from(mistake: Mistake) -> Flaw {
-        Flaw::Mistake(mistake)
+        OrMemory::Error(mistake)
     }
 }
 
-impl From<AllocError> for Flaw {
+impl<E> From<AllocError> for OrMemory<E> {
     ghost from_gives = { λ _ r. r ≡ flaw.Memory };
 
-    fn from(_e: AllocError) -> Flaw {
-        Flaw::Memory
+    fn from(_e: AllocError) -> OrMemory<E> {
+        OrMemory::Memory
     }
 }
 
-impl<T: Drop> From<AllocFailed<T>> for Flaw {
+impl<E, T: Drop> From<AllocFailed<T>> for OrMemory<E> {
     ghost from_gives = { λ _ r. r ≡ flaw.Memory };
 
-    fn from(_e: AllocFailed<T>) -> Flaw {
-        Flaw::Memory
+    fn from(_e: AllocFailed<T>) -> OrMemory<E> {
+        OrMemory::Memory
     }
 }

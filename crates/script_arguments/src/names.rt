@@ -1,6 +1,5 @@
 // The words that commands begin with, and those of the kernels.
 ghost use Rattle.std.specs.Prelude.{◌≡◌};
-ghost use Rattle.std.specs.Str.{bytes_eq};
 ghost use Rattle.script_arguments.specs.Names.{found_in, call_table, other_table, name_of, kernel_of};
 
 use kernels::choice::KernelChoice;
@@ -28,52 +27,35 @@ pub enum Name {
     Save,
 }
 
-// Whether a word is a name.
-fn is(word: &[u8], name: &[u8]) -> bool
-    ensures compares_the_bytes { result ≡ bytes_eq word.now name.now }
-{
-    word == name
-}
-
 // The call that a word names, if it names one.
+#[tactic(auto, using(std::proofs::lemmas::Bool::Decides::nat_tests, crate::proofs::Spelling::bytes_are_read))]
 fn call_name_of(word: &[u8]) -> Option<CallName>
     ensures is_the_name_if_it_is_one { result ≡ found_in call_table word.now }
 {
-    if is(word, b"lay") {
-        Some(CallName::Lay)
-    } else if is(word, b"lease") {
-        Some(CallName::Lease)
-    } else if is(word, b"settle") {
-        Some(CallName::Settle)
-    } else if is(word, b"surrender") {
-        Some(CallName::Surrender)
-    } else if is(word, b"recall") {
-        Some(CallName::Recall)
-    } else if is(word, b"preview") {
-        Some(CallName::Preview)
-    } else if is(word, b"read") {
-        Some(CallName::Read)
-    } else if is(word, b"clear") {
-        Some(CallName::Clear)
-    } else {
-        None
+    match word {
+        b"lay" => Some(CallName::Lay),
+        b"lease" => Some(CallName::Lease),
+        b"settle" => Some(CallName::Settle),
+        b"surrender" => Some(CallName::Surrender),
+        b"recall" => Some(CallName::Recall),
+        b"preview" => Some(CallName::Preview),
+        b"read" => Some(CallName::Read),
+        b"clear" => Some(CallName::Clear),
+        _ => None,
     }
 }
 
 // The other command that a word names, if it names one.
+#[tactic(auto, using(std::proofs::lemmas::Bool::Decides::nat_tests, crate::proofs::Spelling::bytes_are_read))]
 fn other_name_of(word: &[u8]) -> Option<Name>
     ensures is_the_name_if_it_is_one { result ≡ found_in other_table word.now }
 {
-    if is(word, b"plate") {
-        Some(Name::Plate)
-    } else if is(word, b"open") {
-        Some(Name::Open)
-    } else if is(word, b"sheet") {
-        Some(Name::Sheet)
-    } else if is(word, b"save") {
-        Some(Name::Save)
-    } else {
-        None
+    match word {
+        b"plate" => Some(Name::Plate),
+        b"open" => Some(Name::Open),
+        b"sheet" => Some(Name::Sheet),
+        b"save" => Some(Name::Save),
+        _ => None,
     }
 }
 
@@ -81,21 +63,18 @@ fn other_name_of(word: &[u8]) -> Option<Name>
 pub fn name_of(word: &[u8]) -> Option<Name>
     ensures is_the_name_if_it_is_one { result ≡ name_of word.now }
 {
-    match call_name_of(word) {
-        Some(name) => Some(Name::Call(name)),
-        None => other_name_of(word),
-    }
+    call_name_of(word)
+        .map(Name::Call)
+        .or_else(|| other_name_of(word))
 }
 
 // The kernel that a word names, if it names one.
 pub fn kernel_of(word: &[u8]) -> Option<KernelChoice>
     ensures is_the_kernel_if_it_is_one { result ≡ kernel_of word.now }
 {
-    if is(word, b"5/3") {
-        Some(KernelChoice::FiveThree)
-    } else if is(word, b"S") {
-        Some(KernelChoice::STransform)
-    } else {
-        None
+    match word {
+        b"5/3" => Some(KernelChoice::FiveThree),
+        b"S" => Some(KernelChoice::STransform),
+        _ => None,
     }
 }

@@ -1,8 +1,11 @@
-// A mistake in words.
-ghost use Rattle.std.specs.Prelude.{◌≡◌};
-ghost use Rattle.script_arguments.specs.Mistakes.{mistake_words};
+// A mistake and want of memory in words.
+ghost use Rattle.std.specs.Prelude.{◌≡◌, Some};
+ghost use Rattle.script_arguments.specs.Mistakes.{mistake_words, error_words};
 
+use crate::flaw::OrMemory;
 use crate::mistake::Mistake;
+use std::error::Error;
+use std::fmt;
 
 impl Mistake {
     // What is wrong, for people.
@@ -24,3 +27,24 @@ impl Mistake {
         }
     }
 }
+
+impl fmt::Display for Mistake {
+    ghost output = { λ m. Some (mistake_words m) };
+
+    fn fmt<W: fmt::Write>(&self, f: &mut fmt::Formatter<W>) -> fmt::Result {
+        f.write_str(self.words())
+    }
+}
+
+impl<E: fmt::Display> fmt::Display for OrMemory<E> {
+    ghost output = { error_words E.output };
+
+    fn fmt<W: fmt::Write>(&self, f: &mut fmt::Formatter<W>) -> fmt::Result {
+        match self {
+            OrMemory::Error(error) => error.fmt(f),
+            OrMemory::Memory => f.write_str("there is not enough memory"),
+        }
+    }
+}
+
+impl<E: fmt::Debug + fmt::Display + Drop> Error for OrMemory<E> {}

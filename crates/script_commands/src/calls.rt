@@ -1,5 +1,5 @@
 // The commands that have numbers alone: the eight calls, and the sheet.
-ghost use Rattle.std.specs.Prelude.{◌≡◌, ℕ, length, drop, IfOk, if◌then◌else◌, Ok, nat_lt};
+ghost use Rattle.std.specs.Prelude.{◌≡◌, length, IfOk, if◌then◌else◌, Ok, nat_lt};
 ghost use Rattle.script_arguments.specs.declared.names.CallName.TheVariants as called;
 ghost use Rattle.script_arguments.specs.declared.mistake.Mistake.TheVariants as mistake;
 ghost use Rattle.script_commands.specs.Commands.{buffer_length, blank_records, zeros};
@@ -49,24 +49,13 @@ fn output_of(heap: Global, room: u32) -> Result<Vec<i32>, AllocError>
 }
 
 // Why there are not as many numbers as are due.
-fn wrong_count(numbers: &[u32], due: usize) -> Flaw
-    ensures is_missing_or_too_many { result ≡ Flaw.Mistake (if nat_lt (length numbers.now) due then mistake.MissingWord else mistake.TooManyWords) }
+fn wrong_count(numbers: &[u32], due: usize) -> Mistake
+    ensures is_missing_or_too_many { result ≡ (if nat_lt (length numbers.now) due then mistake.MissingWord else mistake.TooManyWords) }
 {
     if numbers.len() < due {
-        Flaw::Mistake(Mistake::MissingWord)
+        Mistake::MissingWord
     } else {
-        Flaw::Mistake(Mistake::TooManyWords)
-    }
-}
-
-// The numbers from an index on.
-fn from_index(numbers: &[u32], index: usize) -> &[u32]
-    ensures are_the_numbers_from_there_on { result.now ≡ drop index numbers.now }
-{
-    if index <= numbers.len() {
-        &numbers[index..]
-    } else {
-        &[]
+        Mistake::TooManyWords
     }
 }
 
@@ -74,17 +63,18 @@ fn from_index(numbers: &[u32], index: usize) -> &[u32]
 fn lay_of(heap: Global, numbers: &[u32]) -> Result<Call, Flaw>
     ensures is_the_laying_or_the_mistake { Reads meaning result (call_of called.Lay numbers.now) }
 {
-    let [rows, columns, top, levels, ..] = numbers else {
-        return Err(Flaw::Mistake(Mistake::MissingWord));
+    let [rows, columns, top, levels, samples @ ..] = numbers else {
+        return Err(Mistake::MissingWord.into());
     };
-    let plan = Plan {
-        rows: *rows as usize,
-        columns: *columns as usize,
-        top: *top as usize,
-        levels: *levels as usize,
-    };
-    let samples = samples_of(heap, from_index(numbers, 4))?;
-    Ok(Call::Lay { plan, samples })
+    Ok(Call::Lay {
+        plan: Plan {
+            rows: *rows as usize,
+            columns: *columns as usize,
+            top: *top as usize,
+            levels: *levels as usize,
+        },
+        samples: samples_of(heap, samples)?,
+    })
 }
 
 // lease ROW COLUMN HEIGHT WIDTH
@@ -92,7 +82,7 @@ fn lease_of(numbers: &[u32]) -> Result<Call, Flaw>
     ensures is_the_leasing_or_the_mistake { Reads meaning result (call_of called.Lease numbers.now) }
 {
     let [row, column, height, width] = numbers else {
-        return Err(wrong_count(numbers, 4));
+        return Err(wrong_count(numbers, 4).into());
     };
     Ok(Call::Lease {
         first: PlatePlace {
@@ -108,10 +98,10 @@ fn lease_of(numbers: &[u32]) -> Result<Call, Flaw>
 fn settle_of(heap: Global, numbers: &[u32]) -> Result<Call, Flaw>
     ensures is_the_settling_or_the_mistake { Reads meaning result (call_of called.Settle numbers.now) }
 {
-    let [plate, serial, records, ..] = numbers else {
-        return Err(Flaw::Mistake(Mistake::MissingWord));
+    let [plate, serial, records, samples @ ..] = numbers else {
+        return Err(Mistake::MissingWord.into());
     };
-    let samples = samples_of(heap, from_index(numbers, 3))?;
+    let samples = samples_of(heap, samples)?;
     let scratch = scratch_of(heap, *records)?;
     Ok(Call::Settle {
         plate: *plate,
@@ -126,7 +116,7 @@ fn surrender_of(numbers: &[u32]) -> Result<Call, Flaw>
     ensures is_the_surrender_or_the_mistake { Reads meaning result (call_of called.Surrender numbers.now) }
 {
     let [plate, serial] = numbers else {
-        return Err(wrong_count(numbers, 2));
+        return Err(wrong_count(numbers, 2).into());
     };
     Ok(Call::Surrender {
         plate: *plate,
@@ -139,7 +129,7 @@ fn preview_of(heap: Global, numbers: &[u32]) -> Result<Call, Flaw>
     ensures is_the_preview_or_the_mistake { Reads meaning result (call_of called.Preview numbers.now) }
 {
     let [level, row, column, height, width, records, room] = numbers else {
-        return Err(wrong_count(numbers, 7));
+        return Err(wrong_count(numbers, 7).into());
     };
     let scratch = scratch_of(heap, *records)?;
     let output = output_of(heap, *room)?;
@@ -163,7 +153,7 @@ fn read_of(numbers: &[u32]) -> Result<Call, Flaw>
     ensures is_the_reading_or_the_mistake { Reads meaning result (call_of called.Read numbers.now) }
 {
     let [level, row, column] = numbers else {
-        return Err(wrong_count(numbers, 3));
+        return Err(wrong_count(numbers, 3).into());
     };
     Ok(Call::Read {
         card: Card {
@@ -182,7 +172,7 @@ fn alone(numbers: &[u32], call: Call) -> Result<Call, Flaw>
 {
     match numbers {
         [] => Ok(call),
-        _ => Err(Flaw::Mistake(Mistake::TooManyWords)),
+        _ => Err(Mistake::TooManyWords.into()),
     }
 }
 
@@ -207,13 +197,10 @@ pub(crate) fn sheet_of(numbers: &[u32]) -> Result<Ending, Flaw>
     ensures is_the_sheet_or_the_mistake { Reads finish_meaning result (sheet_of numbers.now) }
 {
     let [issue, room] = numbers else {
-        return Err(wrong_count(numbers, 2));
+        return Err(wrong_count(numbers, 2).into());
     };
-    match u16::try_from(*issue) {
-        Ok(issue) => Ok(Ending::Sheet {
-            issue,
-            room: *room as usize,
-        }),
-        Err(_) => Err(Flaw::Mistake(Mistake::IssueTooLarge)),
-    }
+    Ok(Ending::Sheet {
+        issue: u16::try_from(*issue).map_err(|_| Mistake::IssueTooLarge)?,
+        room: *room as usize,
+    })
 }

@@ -53,10 +53,7 @@ fn stated(heap: Global, name: Name, line: &[u8]) -> Result<Command, Flaw>
 fn is_comment(word: &[u8]) -> bool
     ensures begins_with_the_sign { result ≡ (slice_index word.now 0 == 35) }
 {
-    match word.first() {
-        Some(first) => *first == b'#',
-        None => false,
-    }
+    word.first() == Some(&b'#')
 }
 
 // The command of a line, none where it states nothing.
@@ -69,8 +66,6 @@ pub fn command_of(heap: Global, line: &[u8]) -> Result<Option<Command>, Flaw>
     if is_comment(word) {
         return Ok(None);
     }
-    let Some(name) = name_of(word) else {
-        return Err(Flaw::Mistake(Mistake::NoSuchCommand));
-    };
+    let name = name_of(word).ok_or(Mistake::NoSuchCommand)?;
     Ok(Some(stated(heap, name, rest)?))
 }

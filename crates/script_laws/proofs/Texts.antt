@@ -1,5 +1,5 @@
 -- The whole text, line by line.
-use Rattle.std.proofs.Common.{◌≡◌, ℕ, ◌+◌, true, List, [], ◌∷◌, ◌++◌, map, length, Some, Ok, sym, refl, ap, ◌∙◌, append_assoc, add-zero, arith}
+use Rattle.std.proofs.Common.{◌≡◌, ℕ, ◌+◌, true, List, [], ◌∷◌, ◌++◌, map, length, Some, Ok, sym, ap, ◌∙◌, append_assoc, add-zero, arith}
 use Rattle.std.specs.List.{AllByRecursion}
 use Rattle.std.proofs.lemmas.List.{append-nil, map-append}
 use Rattle.std.proofs.ByRecursion.{All-append}
@@ -32,17 +32,17 @@ read_requests s done [] n rest all = ap (λ d. script_from (drafted s d []) n re
 read_requests s done (r ∷ rs) n rest all =
     let told = ap (continued (drafted s done [])) (line_is_read (request_words r) (request r) (request_has_words r all.0) (request_is_stated r all.0)) in
     let count : n + 1 + length rs ≡ n + length (r ∷ rs) = omega arith in
-    sym (line_more (drafted s done []) (drafted s (done ++ r ∷ []) []) n _ (spaced (request_words r)) (map spaced (map request_words rs) ++ rest) refl told)
+    line_more (drafted s done []) n (spaced (request_words r)) (map spaced (map request_words rs) ++ rest) (drafted s (done ++ r ∷ []) []) told
     ∙ read_requests s (done ++ r ∷ []) rs (n + 1) rest all.1
     ∙ ap (λ d. script_from (drafted s d []) (n + 1 + length rs) rest) (append_assoc done (r ∷ []) rs)
     ∙ ap (λ m. script_from (drafted s (done ++ r ∷ rs) []) m rest) count
 
 read_finishes : (s : Start) (rs : List Request) (done fs : List Finish) (n : ℕ) → AllByRecursion WritableFinish fs
     → script_from (drafted s rs done) n (map spaced (map finish_words fs)) ≡ Ok (record { start_of = s; requests = rs; finishes = done ++ fs })
-read_finishes s rs done [] n all = lines_end (drafted s rs done) n [] refl ∙ ap (λ d. Ok (record { start_of = s; requests = rs; finishes = d })) (sym (append-nil done))
+read_finishes s rs done [] n all = lines_end (drafted s rs done) n ∙ ap (λ d. Ok (record { start_of = s; requests = rs; finishes = d })) (sym (append-nil done))
 read_finishes s rs done (f ∷ fs) n all =
     let told = ap (continued (drafted s rs done)) (line_is_read (finish_words f) (finish f) (finish_has_words f all.0) (finish_is_stated f all.0)) in
-    sym (line_more (drafted s rs done) (drafted s rs (done ++ f ∷ [])) n _ (spaced (finish_words f)) (map spaced (map finish_words fs)) refl told)
+    line_more (drafted s rs done) n (spaced (finish_words f)) (map spaced (map finish_words fs)) (drafted s rs (done ++ f ∷ [])) told
     ∙ read_finishes s rs (done ++ f ∷ []) fs (n + 1) all.1
     ∙ ap (λ d. Ok (record { start_of = s; requests = rs; finishes = d })) (append_assoc done (f ∷ []) fs)
 
@@ -55,7 +55,7 @@ written_is_read cs fits =
     let rows = map request_words rs ++ map finish_words fs in
     ap (script_from no_draft 1) (lines_of_ended (map spaced (start_words s ∷ rows))
     (no_ends (start_words s ∷ rows) (start_has_words s fits.start_fits, All-append _ _ _ (requests_have_words rs fits.requests_fit) (finishes_have_words fs fits.finishes_fit))))
-    ∙ sym (line_more no_draft (drafted s [] []) 1 _ (spaced (start_words s)) (map spaced rows) refl told)
+    ∙ line_more no_draft 1 (spaced (start_words s)) (map spaced rows) (drafted s [] []) told
     ∙ ap (script_from (drafted s [] []) 2) (map-append spaced (map request_words rs) (map finish_words fs))
     ∙ read_requests s [] rs 2 (map spaced (map finish_words fs)) fits.requests_fit
     ∙ read_finishes s rs [] fs (2 + length rs) fits.finishes_fit

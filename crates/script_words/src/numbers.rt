@@ -13,6 +13,7 @@ fn with_digit(n: u32, b: u8) -> Option<u32>
 }
 
 // The number that a word writes, if it writes one.
+#[tactic(auto, using(std::proofs::lemmas::Grind::common_steps, crate::proofs::Digits::digits))]
 pub fn number_of(word: &[u8]) -> Option<u32>
     ensures is_the_number_if_it_is_one { result ≡ number word.now }
 {

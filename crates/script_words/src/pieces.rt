@@ -1,33 +1,27 @@
 // The next line of a text, and the next word of a line.
-ghost use Rattle.std.specs.Prelude.{◌≡◌, ℕ, ◌<◌, ◌≤◌, [], ◌∷◌, length, MatchOption, ◌≢◌, slice_index};
+ghost use Rattle.std.specs.Prelude.{◌≡◌, ◌<◌, [], ◌∷◌, length, MatchOption, position, ◌==◌};
+ghost use Rattle.std.specs.Iterator.{YieldsFirstRef, item_count};
 ghost use Rattle.script_words.specs.Words.{pieces, lines, words};
 
-// How many bytes stand before the first one that ends a piece.
-fn piece_length(text: &[u8], end: u8) -> usize
-    ensures is_within { result ≤ length text.now }
-    ensures no_end_is_before { (k : ℕ) → k < result → slice_index text.now k ≢ end }
-    ensures an_end_is_there { result < length text.now → slice_index text.now result ≡ end }
+// Where the first byte stands that ends a piece.
+fn first_end(text: &[u8], end: u8) -> Option<usize>
+    ensures is_the_first_place { result ≡ position (λ b. b == end) text.now }
 {
-    for (i, b) in text.iter().enumerate() {
-        if *b == end {
-            return i;
-        }
-    }
-    text.len()
+    text.iter().position(|b| *b == end)
 }
 
 // The first piece of a text, and the text after it; none where the text is empty.
+#[tactic(auto, using(std::proofs::lemmas::Grind::common_steps, crate::proofs::Fronts::first_piece), unfolding(crate::specs::Words::pieces))]
 fn next_piece(text: &[u8], end: u8) -> Option<(&[u8], &[u8])>
     ensures is_the_first_piece { MatchOption result (pieces end text.now ≡ []) (λ p. (pieces end text.now ≡ p.0.now ∷ pieces end p.1.now) × (length p.1.now < length text.now)) }
 {
     if text.is_empty() {
         return None;
     }
-    let (piece, rest) = text.split_at(piece_length(text, end));
-    if rest.is_empty() {
-        return Some((piece, rest));
+    match first_end(text, end) {
+        Some(at) => Some((&text[..at], &text[at + 1..])),
+        None => Some((text, &[])),
     }
-    Some((piece, &rest[1..]))
 }
 
 // The first line of a text, and the text after it; none where the text is empty.
@@ -38,6 +32,7 @@ pub fn next_line(text: &[u8]) -> Option<(&[u8], &[u8])>
 }
 
 // The first word of a line, and the line after it; none where there is no word.
+#[tactic(auto, unfolding(crate::specs::Words::filled))]
 pub fn next_word(line: &[u8]) -> Option<(&[u8], &[u8])>
     ensures is_the_first_word { MatchOption result (words line.now ≡ []) (λ p. (words line.now ≡ p.0.now ∷ words p.1.now) × (length p.1.now < length line.now)) }
 {
@@ -49,4 +44,40 @@ pub fn next_word(line: &[u8]) -> Option<(&[u8], &[u8])>
         rest = after;
     }
     None
+}
+
+// The lines of a text, one after the other.
+#[derive(Drop)]
+pub struct Lines<'a>(pub &'a [u8]);
+
+impl<'a> Iterator for Lines<'a> {
+    type Item = &'a [u8];
+
+    ghost next_gives = { YieldsFirstRef (λ s. lines s.0.now) };
+
+    ghost remaining = { item_count (λ s. lines s.0.now) };
+
+    fn next(&mut self) -> Option<&'a [u8]> {
+        let (line, rest) = next_line(self.0)?;
+        self.0 = rest;
+        Some(line)
+    }
+}
+
+// The words of a line, one after the other.
+#[derive(Drop)]
+pub struct Words<'a>(pub &'a [u8]);
+
+impl<'a> Iterator for Words<'a> {
+    type Item = &'a [u8];
+
+    ghost next_gives = { YieldsFirstRef (λ s. words s.0.now) };
+
+    ghost remaining = { item_count (λ s. words s.0.now) };
+
+    fn next(&mut self) -> Option<&'a [u8]> {
+        let (word, rest) = next_word(self.0)?;
+        self.0 = rest;
+        Some(word)
+    }
 }

@@ -5,12 +5,11 @@ use Rattle.std.specs.Option.{option_map}
 use Rattle.std.specs.List.{AllByRecursion}
 use Rattle.plates.specs.declared.calls.Answer.TheVariants.{Pending}
 use Rattle.plates.specs.declared.calls.Turn.{Turn}
-use Rattle.script_arguments.specs.declared.flaw.Flaw.{Flaw}
-use Rattle.script_arguments.specs.declared.flaw.Flaw.TheVariants as flaw
+use Rattle.script_arguments.specs.declared.flaw.OrMemory.{OrMemory}
+use Rattle.script_arguments.specs.declared.flaw.OrMemory.TheVariants as flaw
+use Rattle.script_arguments.specs.declared.mistake.Mistake.{Mistake}
 use Rattle.scripts.specs.declared.script.Script.{Script}
-use Rattle.scripts.specs.declared.script.Trouble.{Trouble}
-use Rattle.scripts.specs.declared.script.Trouble.TheVariants as trouble
-use Rattle.scripts.specs.declared.script.Wrong as wrongs
+use Rattle.scripts.specs.declared.script.Wrong.{Wrong}
 use Rattle.scripts.specs.declared.draft.Draft as drafts
 use Rattle.scripts.specs.Commands.{Request, Commands}
 use Rattle.scripts.specs.Scripts.{Draft}
@@ -37,12 +36,12 @@ abbrev pub AllPending : List Turn → Type 0
 AllPending ts = AllByRecursion (λ t. t.answer ≡ Pending) ts
 
 -- What the reading of a script promises: the commands of the text, or its first line in error; of want of memory nothing is said.
-abbrev pub ScriptRead : Result Script Trouble → Result Commands wrongs.Wrong → Type 0
+abbrev pub ScriptRead : Result Script (OrMemory Wrong) → Result Commands Wrong → Type 0
 ScriptRead (Ok s) told = (told ≡ Ok (script_meaning s)) × AllPending (vec_items s.turns)
-ScriptRead (Err (trouble.Wrong w)) told = told ≡ Err w
-ScriptRead (Err trouble.Memory) told = Unit {0}
+ScriptRead (Err (flaw.Error w)) told = told ≡ Err w
+ScriptRead (Err flaw.Memory) told = Unit {0}
 
 -- A flaw in a line.
-abbrev pub trouble_at : ℕ → Flaw → Trouble
-trouble_at line (flaw.Mistake m) = trouble.Wrong (record { line = line; mistake = m })
-trouble_at line flaw.Memory = trouble.Memory
+abbrev pub trouble_at : ℕ → OrMemory Mistake → OrMemory Wrong
+trouble_at line (flaw.Error m) = flaw.Error (record { line = line; mistake = m })
+trouble_at line flaw.Memory = flaw.Memory

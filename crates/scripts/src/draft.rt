@@ -18,7 +18,7 @@ pub(crate) fn trouble_at(line: usize, flaw: Flaw) -> Trouble
     ensures has_the_lines_number { result ≡ trouble_at line flaw }
 {
     match flaw {
-        Flaw::Mistake(mistake) => Trouble::Wrong(Wrong { line, mistake }),
+        Flaw::Error(mistake) => Trouble::Error(Wrong { line, mistake }),
         Flaw::Memory => Trouble::Memory,
     }
 }
@@ -45,18 +45,15 @@ impl Draft {
     }
 
     // The draft with its first command, if it had none.
-    fn with_opening(self, opening: Opening) -> Result<Draft, Flaw>
+    fn with_opening(mut self, opening: Opening) -> Result<Draft, Flaw>
         ensures has_the_opening_or_had_one { Reads draft_meaning result (added (draft_meaning self) (command_meaning (Command.Opening opening))) }
         ensures waits { AllPending self.turns.items → IfOk result (λ d. AllPending d.turns.items) }
     {
         if self.opening.is_some() {
-            return Err(Flaw::Mistake(Mistake::OpeningRepeated));
+            return Err(Mistake::OpeningRepeated.into());
         }
-        Ok(Draft {
-            opening: Some(opening),
-            turns: self.turns,
-            endings: self.endings,
-        })
+        self.opening = Some(opening);
+        Ok(self)
     }
 
     // The draft with one more call, if one may stand there.
@@ -65,10 +62,10 @@ impl Draft {
         ensures waits { AllPending self.turns.items → IfOk result (λ d. AllPending d.turns.items) }
     {
         if self.opening.is_none() {
-            return Err(Flaw::Mistake(Mistake::OpeningMissing));
+            return Err(Mistake::OpeningMissing.into());
         }
         if !self.endings.is_empty() {
-            return Err(Flaw::Mistake(Mistake::CallAfterEnding));
+            return Err(Mistake::CallAfterEnding.into());
         }
         self.turns.push(Turn {
             call,
@@ -83,7 +80,7 @@ impl Draft {
         ensures waits { AllPending self.turns.items → IfOk result (λ d. AllPending d.turns.items) }
     {
         if self.opening.is_none() {
-            return Err(Flaw::Mistake(Mistake::OpeningMissing));
+            return Err(Mistake::OpeningMissing.into());
         }
         self.endings.push(ending)?;
         Ok(self)
@@ -106,21 +103,14 @@ impl Draft {
     pub(crate) fn into_script(self, line: usize) -> Result<Script, Trouble>
         ensures is_the_script_if_it_has_a_plate { AllPending self.turns.items → ScriptRead result (concluded (draft_meaning self).start_so_far (draft_meaning self).requests_so_far (draft_meaning self).finishes_so_far line) }
     {
-        let Draft {
+        let opening = self.opening.ok_or(Trouble::Error(Wrong {
+            line,
+            mistake: Mistake::NoPlate,
+        }))?;
+        Ok(Script {
             opening,
-            turns,
-            endings,
-        } = self;
-        match opening {
-            None => Err(Trouble::Wrong(Wrong {
-                line,
-                mistake: Mistake::NoPlate,
-            })),
-            Some(opening) => Ok(Script {
-                opening,
-                turns,
-                endings,
-            }),
-        }
+            turns: self.turns,
+            endings: self.endings,
+        })
     }
 }

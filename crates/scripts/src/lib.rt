@@ -3,3 +3,4 @@
 
 mod draft;
 pub mod script;
+mod show;

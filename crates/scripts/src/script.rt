@@ -1,15 +1,14 @@
 // A script as values, and its reading from text.
-ghost use Rattle.std.specs.Prelude.{◌≡◌};
-ghost use Rattle.scripts.specs.declared.script.Trouble.TheVariants as trouble;
 ghost use Rattle.scripts.specs.Meanings.{ScriptRead};
 ghost use Rattle.scripts.specs.Scripts.{script_of};
 
 use crate::draft::{Draft, trouble_at};
 use plates::calls::Turn;
+use script_arguments::flaw::OrMemory;
 pub use script_arguments::mistake::Mistake;
 pub use script_commands::values::{Ending, Opening};
-use script_words::pieces::next_line;
-use std::alloc::{AllocError, AllocFailed, Global};
+use script_words::pieces::Lines;
+use std::alloc::Global;
 
 // The calls of a script wait for their answers.
 #[derive(Drop)]
@@ -26,42 +25,20 @@ pub struct Wrong {
     pub mistake: Mistake,
 }
 
-// Why there is no script.
-#[derive(Clone, Copy, PartialEq, Eq, Debug)]
-pub enum Trouble {
-    Wrong(Wrong),
-    Memory,
-}
-
-impl From<AllocError> for Trouble {
-    ghost from_gives = { λ _ r. r ≡ trouble.Memory };
-
-    fn from(_e: AllocError) -> Trouble {
-        Trouble::Memory
-    }
-}
-
-impl<T: Drop> From<AllocFailed<T>> for Trouble {
-    ghost from_gives = { λ _ r. r ≡ trouble.Memory };
-
-    fn from(_e: AllocFailed<T>) -> Trouble {
-        Trouble::Memory
-    }
-}
+// Why there is no script: a line in error, or want of memory.
+pub type Trouble = OrMemory<Wrong>;
 
 // The script that a text states. Lines end at byte 10 and words at spaces; the first line in error is the one reported.
+#[tactic(auto, using(std::proofs::lemmas::Grind::common_steps, crate::proofs::Drafts::texts))]
 pub fn read_script(heap: Global, text: &[u8]) -> Result<Script, Trouble>
     ensures is_the_script_or_its_first_line_in_error { ScriptRead result (script_of text.now) }
 {
     let mut draft = Draft::new(heap);
-    let mut rest = text;
     let mut line = 1usize;
-    while let Some((words, after)) = next_line(rest) {
-        draft = match draft.with_line(heap, words) {
-            Ok(longer) => longer,
-            Err(flaw) => return Err(trouble_at(line, flaw)),
-        };
-        rest = after;
+    for words in Lines(text) {
+        draft = draft
+            .with_line(heap, words)
+            .map_err(|flaw| trouble_at(line, flaw))?;
         line += 1;
     }
     draft.into_script(line)

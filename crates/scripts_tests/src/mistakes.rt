@@ -11,16 +11,9 @@ fn check_wrong(
     line: usize,
     mistake: Mistake,
 ) -> Result<(), Fail> {
-    match read_script(heap, text) {
-        Ok(_) => {
-            assert!(rt; false, "a script");
-            Ok(())
-        },
-        Err(trouble) => {
-            assert_eq!(rt; trouble, Trouble::Wrong(Wrong { line, mistake }));
-            Ok(())
-        },
-    }
+    let trouble = read_script(heap, text).err();
+    assert_eq!(rt; trouble, Some(Trouble::Error(Wrong { line, mistake })));
+    Ok(())
 }
 
 #[test]

@@ -2,7 +2,7 @@
 #![tactic(auto)]
 
 use anyhow::anyhow;
-use scripts::script::{Ending, Opening, Script, Trouble, Wrong, read_script};
+use scripts::script::{Ending, Opening, Script, read_script};
 use std::io::{Read, Write};
 use std::process::ExitCode;
 use tile_disk::{read_plate, write_plate};
@@ -24,10 +24,7 @@ fn main(rt: HostRuntime) -> ExitCode {
 fn script_of(rt: &HostRuntime) -> anyhow::Result<Script> {
     let mut text = Vec::new(rt.alloc());
     rt.stdin().read_to_end(&mut text)?;
-    read_script(rt.alloc(), &text).map_err(|trouble| match trouble {
-        Trouble::Wrong(Wrong { line, mistake }) => anyhow!("line {line}: {}", mistake.words()),
-        Trouble::Memory => anyhow!("there is not enough memory"),
-    })
+    Ok(read_script(rt.alloc(), &text)?)
 }
 
 // A path as text.

@@ -6,10 +6,8 @@ use Rattle.scripts.specs.Meanings.{draft_meaning, AllPending}
 use Rattle.scripts.proofs.script.read_script.Given as goal
 
 abbrev pub invariant-loop-words : goal.invariant-loop-words
-invariant-loop-words l =
-    (script_from (draft_meaning l.draft) l.line (lines l.rest) ≡ script_of l.text)
-    × AllPending (vec_items l.draft.turns)
-    × (l.line + length l.rest ≤ length l.text + 1)
-
-abbrev pub decreases-loop-words : goal.decreases-loop-words
-decreases-loop-words l = length l.rest
+invariant-loop-words l = record {
+  same_script : script_from (draft_meaning l.draft) l.line (lines l.words-iterator.0.now) ≡ script_of l.text;
+  waits : AllPending (vec_items l.draft.turns);
+  counted : l.line + length (lines l.words-iterator.0.now) ≤ length l.text + 1;
+}
