@@ -1,5 +1,5 @@
 -- The line that each answer prints.
-use Rattle.std.specs.Prelude.{ℕ, ◌*◌, Bool, cond, List, ◌++◌, take, ℤ, vec_items, codes, decimal, Option}
+use Rattle.std.specs.Prelude.{ℕ, ◌*◌, Bool, cond, List, ◌++◌, take, ℤ, vec_items, codes, decimal, Ok, Err, Option, Result}
 use Rattle.std.specs.Fmt.{signed_decimal}
 use Rattle.std.specs.List.{flat_map}
 use Rattle.std.specs.declared.option.Option.TheVariants as option
@@ -9,7 +9,7 @@ use Rattle.faults.specs.Words.{fault_words}
 use Rattle.plates.specs.declared.calls.Call.{Call}
 use Rattle.plates.specs.declared.calls.Call.TheVariants.{Lay, Lease, Settle, Surrender, Recall, Preview, Read, Clear}
 use Rattle.plates.specs.declared.calls.Answer.{Answer}
-use Rattle.plates.specs.declared.calls.Answer.TheVariants.{Pending, Declined, Done, Leased, Settled, Recalled, CellRead}
+use Rattle.plates.specs.declared.calls.Answer.TheVariants.{Done, Leased, Settled, Recalled, CellRead}
 use Rattle.plates.specs.declared.calls.Turn.{Turn}
 
 -- A fault: its number, its layer, its place and its words.
@@ -47,15 +47,19 @@ bit_words b = cond b (codes " set\n") (codes " unset\n")
 abbrev pub cell_line : ℤ → Bool → List ℕ
 cell_line x b = (codes "cell " ++ signed_decimal x) ++ bit_words b
 
--- The line of a call and its answer. In a list that was run no answer is pending.
-abbrev pub answer_line : Call → Answer → List ℕ
-answer_line c Pending = codes "pending\n"
-answer_line c (Declined f) = fault_line f
-answer_line c Done = done_line c
-answer_line c (Leased plate serial) = codes "lease " ++ (decimal plate ++ (codes " " ++ (decimal serial ++ codes "\n")))
-answer_line c (Settled n) = codes "settled " ++ (decimal n ++ codes "\n")
-answer_line c (Recalled o) = recalled_line o
-answer_line c (CellRead x b) = cell_line x b
+-- The line of an accepted call and its answer.
+abbrev pub accepted_line : Call → Answer → List ℕ
+accepted_line c Done = done_line c
+accepted_line c (Leased plate serial) = codes "lease " ++ (decimal plate ++ (codes " " ++ (decimal serial ++ codes "\n")))
+accepted_line c (Settled n) = codes "settled " ++ (decimal n ++ codes "\n")
+accepted_line c (Recalled o) = recalled_line o
+accepted_line c (CellRead x) = cell_line x.number x.bit
+
+-- The line of a call and what stands beside it. In a list that was run no answer is pending.
+abbrev pub answer_line : Call → Option (Result Answer Fault) → List ℕ
+answer_line c option.None = codes "pending\n"
+answer_line c (option.Some (Err f)) = fault_line f
+answer_line c (option.Some (Ok a)) = accepted_line c a
 
 abbrev pub line_of : Turn → List ℕ
 line_of t = answer_line t.call t.answer

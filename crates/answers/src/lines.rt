@@ -68,10 +68,10 @@ impl fmt::Display for Line<'_> {
 
     fn fmt<W: fmt::Write>(&self, f: &mut fmt::Formatter<W>) -> fmt::Result {
         match (self.0.answer, &self.0.call) {
-            (Answer::Pending, _) => f.write_str("pending\n"),
-            (Answer::Declined(fault), _) => FaultLine(fault).fmt(f),
+            (None, _) => f.write_str("pending\n"),
+            (Some(Err(fault)), _) => FaultLine(fault).fmt(f),
             (
-                Answer::Done,
+                Some(Ok(Answer::Done)),
                 Call::Preview {
                     height,
                     width,
@@ -79,12 +79,14 @@ impl fmt::Display for Line<'_> {
                     ..
                 },
             ) => PreviewLine(numbers_shown(*height, *width, output)).fmt(f),
-            (Answer::Done, _) => f.write_str("ok\n"),
-            (Answer::Leased(plate, serial), _) => writeln!(f, "lease {plate} {serial}"),
-            (Answer::Settled(count), _) => writeln!(f, "settled {count}"),
-            (Answer::Recalled(Some(serial)), _) => writeln!(f, "recalled {serial}"),
-            (Answer::Recalled(None), _) => f.write_str("recalled none\n"),
-            (Answer::CellRead(number, bit), _) => write!(f, "cell {number}{}", bit_words(bit)),
+            (Some(Ok(Answer::Done)), _) => f.write_str("ok\n"),
+            (Some(Ok(Answer::Leased(plate, serial))), _) => writeln!(f, "lease {plate} {serial}"),
+            (Some(Ok(Answer::Settled(count))), _) => writeln!(f, "settled {count}"),
+            (Some(Ok(Answer::Recalled(Some(serial)))), _) => writeln!(f, "recalled {serial}"),
+            (Some(Ok(Answer::Recalled(None))), _) => f.write_str("recalled none\n"),
+            (Some(Ok(Answer::CellRead(cell))), _) => {
+                write!(f, "cell {}{}", cell.number, bit_words(cell.bit))
+            },
         }
     }
 }

@@ -15,7 +15,7 @@ use planes::rectangle::Rectangle;
 use std::alloc::{AllocError, Global};
 
 // What was compared so far.
-#[derive(Clone, Copy)]
+#[derive(Clone, Copy, Default)]
 pub struct Tally {
     pub plates: u64,
     pub cells: u64,
@@ -65,11 +65,8 @@ fn paint(picture: &mut Rows, rectangle: Rectangle, samples: &[u16]) {
 // Compares one row of a store with a row of a picture.
 fn compare_row(tally: &mut Tally, store: &FlatStore<'_>, picture: &Rows, row: usize) {
     for column in 0..picture.width() {
-        let same = match store.read(row, column) {
-            Ok(number) => number as i64 == picture.get(row, column),
-            Err(_) => false,
-        };
-        tally.note(same);
+        let number = store.read(row, column).map(i64::from);
+        tally.note(number == Ok(picture.get(row, column)));
     }
 }
 
@@ -98,9 +95,7 @@ fn compare_cone_row(
             column,
         );
         tally.note(cone.contains(row, column) == reached);
-        if reached {
-            count = count.wrapping_add(1);
-        }
+        count = count.wrapping_add(u128::from(reached));
     }
     count
 }
@@ -168,14 +163,8 @@ pub fn compare_plate(
     let laid = samples(heap, noise, area)?;
     let mut picture = Rows::new(heap, shape.height, shape.width)?;
     paint(&mut picture, whole, &laid);
-    let mut cells = vec![in heap; Cell {
-        number: 0,
-        bit: false
-    }; area]?;
-    let mut scratch = vec![in heap; Cell {
-        number: 0,
-        bit: false
-    }; area]?;
+    let mut cells = vec![in heap; Cell::BLANK; area]?;
+    let mut scratch = vec![in heap; Cell::BLANK; area]?;
     let mut store = FlatStore::new(&mut cells, shape.height, shape.width);
     overlay(
         &mut store,
@@ -185,7 +174,7 @@ pub fn compare_plate(
         },
     );
     let store = forward(store, &shape.kernel, shape.level);
-    let mut plain = picture.copy(heap)?;
+    let mut plain = picture.copy()?;
     transform(heap, &mut plain, shape.kernel, shape.level.number)?;
     compare(tally, &store, &plain);
     let rectangle = some_rectangle(noise, shape);
@@ -199,7 +188,7 @@ pub fn compare_plate(
         let (store, count) = edit(store, &mut scratch, shape, rectangle, &replaced, cone);
         let by_rule = compare_cone(tally, shape, &cone, rectangle);
         tally.note(count == by_rule && cone.count() == by_rule);
-        let mut plain = picture.copy(heap)?;
+        let mut plain = picture.copy()?;
         transform(heap, &mut plain, shape.kernel, shape.level.number)?;
         compare(tally, &store, &plain);
         let store = inverse(store, &shape.kernel, shape.level, Level { number: 0 });

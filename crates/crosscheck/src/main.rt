@@ -23,28 +23,15 @@ fn compare_levels(
 ) -> Result<(), AllocError> {
     for number in 0..6 {
         let level = Level { number };
-        compare_plate(
-            heap,
-            tally,
-            noise,
-            Shape {
+        for kernel in [KernelChoice::FiveThree, KernelChoice::STransform] {
+            let shape = Shape {
                 height,
                 width,
                 level,
-                kernel: KernelChoice::FiveThree,
-            },
-        )?;
-        compare_plate(
-            heap,
-            tally,
-            noise,
-            Shape {
-                height,
-                width,
-                level,
-                kernel: KernelChoice::STransform,
-            },
-        )?;
+                kernel,
+            };
+            compare_plate(heap, tally, noise, shape)?;
+        }
     }
     Ok(())
 }
@@ -88,11 +75,7 @@ fn compare_large(heap: Global, tally: &mut Tally, noise: &mut Noise) -> Result<(
 
 fn run(rt: &HostRuntime) -> anyhow::Result<()> {
     let heap = rt.alloc();
-    let mut tally = Tally {
-        plates: 0,
-        cells: 0,
-        differences: 0,
-    };
+    let mut tally = Tally::default();
     let mut noise = Noise::new(20261117);
     compare_small(heap, &mut tally, &mut noise)?;
     compare_large(heap, &mut tally, &mut noise)?;

@@ -20,9 +20,6 @@ impl Noise {
 
     // A number below a bound; 0 where the bound is 0.
     pub fn below(&mut self, bound: usize) -> usize {
-        match (self.next() as usize).checked_rem(bound) {
-            Some(n) => n,
-            None => 0,
-        }
+        (self.next() as usize).checked_rem(bound).unwrap_or(0)
     }
 }

@@ -1,4 +1,6 @@
 // The transform written apart from the library, over rows of wide numbers, for comparison.
+ghost use Rattle.std.specs.Prelude.{ℤ};
+
 use kernels::choice::KernelChoice;
 use std::alloc::{AllocError, Global};
 
@@ -23,18 +25,15 @@ impl Rows {
     }
 
     pub fn width(&self) -> usize {
-        match self.rows.first() {
-            Some(row) => row.len(),
-            None => 0,
-        }
+        self.rows.first().map_or(0, |row| row.len())
     }
 
     // The number at a place, 0 outside.
     pub fn get(&self, row: usize, column: usize) -> i64 {
-        match self.rows.get(row) {
-            Some(numbers) => numbers.get(column).copied().unwrap_or(0),
-            None => 0,
-        }
+        self.rows
+            .get(row)
+            .and_then(|numbers| numbers.get(column).copied())
+            .unwrap_or(0)
     }
 
     pub fn set(&mut self, row: usize, column: usize, number: i64) {
@@ -46,12 +45,10 @@ impl Rows {
     }
 
     // The same numbers again.
-    pub fn copy(&self, heap: Global) -> Result<Rows, AllocError> {
-        let mut rows = Vec::new(heap);
-        for numbers in self.rows.iter() {
-            rows.push(numbers.clone()?)?;
-        }
-        Ok(Rows { rows })
+    pub fn copy(&self) -> Result<Rows, AllocError> {
+        Ok(Rows {
+            rows: self.rows.clone()?,
+        })
     }
 }
 
@@ -88,30 +85,23 @@ fn neighbours(line: &[i64], i: usize) -> (i64, i64) {
     (left, right)
 }
 
-// The odd places are lowered by the predict amount.
-fn lower_odd(kernel: KernelChoice, line: &mut [i64]) {
+// The places of one parity are changed by an amount of their neighbours.
+fn change_places<F: Fn(i64, i64) -> i64>(line: &mut [i64], parity: usize, amount: F)
+    requires { (a : ℤ) (b : ℤ) → F.pre amount a b }
+{
     for i in 0..line.len() {
-        if i % 2 == 1 {
+        if i % 2 == parity {
             let (a, b) = neighbours(line, i);
-            line[i] = line[i].wrapping_sub(predict(kernel, a, b));
+            line[i] = line[i].wrapping_add(amount(a, b));
         }
     }
 }
 
-// The even places are raised by the update amount.
-fn raise_even(kernel: KernelChoice, line: &mut [i64]) {
-    for i in 0..line.len() {
-        if i % 2 == 0 {
-            let (a, b) = neighbours(line, i);
-            line[i] = line[i].wrapping_add(update(kernel, a, b));
-        }
-    }
-}
-
+// The odd places are lowered by the predict amount, and then the even ones are raised by the update amount.
 fn lift_line(kernel: KernelChoice, line: &mut [i64]) {
     if line.len() >= 2 {
-        lower_odd(kernel, line);
-        raise_even(kernel, line);
+        change_places(line, 1, |a, b| predict(kernel, a, b).wrapping_neg());
+        change_places(line, 0, |a, b| update(kernel, a, b));
     }
 }
 

@@ -34,11 +34,7 @@ fn buffer_length(n: u32) -> usize
 fn scratch_of(heap: Global, records: u32) -> Result<Vec<Cell>, AllocError>
     ensures is_blank { IfOk result (λ v. v.items ≡ blank_records records) }
 {
-    let blank = Cell {
-        number: 0,
-        bit: false,
-    };
-    vec![in heap; blank; buffer_length(records)]
+    vec![in heap; Cell::BLANK; buffer_length(records)]
 }
 
 // Zeros.

@@ -3,7 +3,7 @@ pub use Rattle.script_commands.specs.Meanings.{meaning, start_meaning, finish_me
 use Rattle.std.specs.Prelude.{◌≡◌, ℕ, List, map, Ok, Err, vec_items, Result}
 use Rattle.std.specs.Option.{option_map}
 use Rattle.std.specs.List.{AllByRecursion}
-use Rattle.plates.specs.declared.calls.Answer.TheVariants.{Pending}
+use Rattle.std.specs.declared.option.Option.TheVariants as option
 use Rattle.plates.specs.declared.calls.Turn.{Turn}
 use Rattle.script_arguments.specs.declared.flaw.OrMemory.{OrMemory}
 use Rattle.script_arguments.specs.declared.flaw.OrMemory.TheVariants as flaw
@@ -33,7 +33,7 @@ draft_meaning d = record {
 
 -- every answer is still to come
 abbrev pub AllPending : List Turn → Type 0
-AllPending ts = AllByRecursion (λ t. t.answer ≡ Pending) ts
+AllPending ts = AllByRecursion (λ t. t.answer ≡ option.None) ts
 
 -- What the reading of a script promises: the commands of the text, or its first line in error; of want of memory nothing is said.
 abbrev pub ScriptRead : Result Script (OrMemory Wrong) → Result Commands Wrong → Type 0

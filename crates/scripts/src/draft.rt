@@ -6,7 +6,7 @@ ghost use Rattle.scripts.specs.Scripts.{no_draft, added, continued, concluded};
 ghost use Rattle.scripts.specs.Meanings.{ScriptRead, AllPending, command_meaning, draft_meaning, trouble_at};
 
 use crate::script::{Script, Trouble, Wrong};
-use plates::calls::{Answer, Call, Turn};
+use plates::calls::{Call, Turn};
 use script_arguments::flaw::Flaw;
 use script_arguments::mistake::Mistake;
 use script_commands::commands::command_of;
@@ -67,10 +67,7 @@ impl Draft {
         if !self.endings.is_empty() {
             return Err(Mistake::CallAfterEnding.into());
         }
-        self.turns.push(Turn {
-            call,
-            answer: Answer::Pending,
-        })?;
+        self.turns.push(Turn::waiting(call))?;
         Ok(self)
     }
 

@@ -1,6 +1,6 @@
 // Every command, as numbers, and the spaces, blank lines and comments around it.
 use kernels::choice::KernelChoice;
-use plates::calls::{Answer, Call};
+use plates::calls::Call;
 use scripts::script::{Ending, Opening, Script, read_script};
 use std::alloc::Global;
 use std::process::Abort;
@@ -114,7 +114,7 @@ fn check_call(rt: &impl Abort, heap: Global, text: &[u8], numbers: [usize; 8]) -
         endings: _,
     } = read_script(heap, text)?;
     assert!(rt; turns.len() == 1);
-    assert_eq!(rt; turns[0].answer, Answer::Pending);
+    assert_eq!(rt; turns[0].answer, None);
     assert_eq!(rt; call_numbers(&turns[0].call), numbers);
     Ok(())
 }

@@ -20,11 +20,6 @@ const LEVELS: usize = 2;
 // The length of the longest sheet, of 2,048 runs of one cell each.
 const LONGEST: usize = 47142;
 
-const BLANK: Cell = Cell {
-    number: 0,
-    bit: false,
-};
-
 // How a picture is laid: at two levels.
 fn plan_of(picture: Picture) -> Plan
     ensures is_of_two_levels { result ≡ laid_by picture }
@@ -46,7 +41,7 @@ fn write_picture(bytes: &[u8], out: &mut [u8]) -> Result<usize, Fault>
     let mut samples = [0u16; SAMPLES];
     let picture = read_pgm(bytes.get(..BYTES).unwrap_or(bytes), &mut samples)?;
     let plan = plan_of(picture);
-    let mut records = [BLANK; SAMPLES];
+    let mut records = [Cell::BLANK; SAMPLES];
     let store = FlatStore::new(&mut records, plan.rows, plan.columns);
     lay_and_write(store, plan, picture.raster(&samples), out)
 }

@@ -10,11 +10,6 @@ use plates::state::Plate;
 use std::process::Abort;
 use std::test::Fail;
 
-const BLANK: Cell = Cell {
-    number: 0,
-    bit: false,
-};
-
 const ROW: Plan = Plan {
     rows: 1,
     columns: 4,
@@ -37,8 +32,8 @@ fn check_sheet(
 // Laid, cleared, and one sample replaced, whose cone has three cells.
 #[test]
 fn a_plate_tells_its_changed_cells(rt: HostRuntime) -> Result<(), Fail> {
-    let mut cells = [BLANK; 4];
-    let mut scratch = [BLANK; 4];
+    let mut cells = [Cell::BLANK; 4];
+    let mut scratch = [Cell::BLANK; 4];
     let mut plate = Plate::new(7, FlatStore::new(&mut cells, 1, 4), FiveThree);
     plate.lay(ROW, &[10, 20, 30, 40])?;
     check_sheet(
@@ -59,7 +54,7 @@ fn a_plate_tells_its_changed_cells(rt: HostRuntime) -> Result<(), Fail> {
 
 #[test]
 fn sheets_are_declined_in_order(rt: HostRuntime) -> Result<(), Fail> {
-    let mut cells = [BLANK; 4];
+    let mut cells = [Cell::BLANK; 4];
     let mut out = [b'.'; 84];
     let mut plate = Plate::new(7, FlatStore::new(&mut cells, 1, 4), FiveThree);
     assert_eq!(rt; plate.sheet(1, &mut out), Err(Fault::Unlaid));

@@ -6,11 +6,6 @@ use sheets::sheet::write_sheet;
 use std::process::Abort;
 use std::test::Fail;
 
-const BLANK: Cell = Cell {
-    number: 0,
-    bit: false,
-};
-
 fn mark(cells: &mut [Cell], marks: &[u8]) {
     let mut number = 9i32;
     for (cell, mark) in cells.iter_mut().zip(marks.iter()) {
@@ -23,7 +18,7 @@ fn mark(cells: &mut [Cell], marks: &[u8]) {
 }
 
 fn sheet(marks: &[u8], rows: u16, columns: u16, out: &mut [u8]) -> Option<usize> {
-    let mut cells = [BLANK; 40];
+    let mut cells = [Cell::BLANK; 40];
     mark(&mut cells, marks);
     let store = FlatStore::new(&mut cells, rows as usize, columns as usize);
     let head = Head {

@@ -7,7 +7,7 @@ use planes::cell::Cell;
 use planes::flat::FlatStore;
 use planes::places::{LatticePlace, PlatePlace};
 use planes::plane::{Plane, Store};
-use plates::calls::{Answer, Call, Turn};
+use plates::calls::{Call, Turn};
 use plates::run::run;
 use std::alloc::{AllocError, Global};
 use std::process::Abort;
@@ -15,18 +15,6 @@ use std::test::Fail;
 use tile_bytes::header::write_slot;
 use tiles::file::TileFile;
 use tiles::formatting::format;
-
-const BLANK: Cell = Cell {
-    number: 0,
-    bit: false,
-};
-
-fn asked(call: Call) -> Turn {
-    Turn {
-        call,
-        answer: Answer::Pending,
-    }
-}
 
 // Samples without a pattern that tiles could repeat.
 fn samples(heap: Global, count: usize, step: usize) -> Result<Vec<u16>, AllocError> {
@@ -39,12 +27,12 @@ fn samples(heap: Global, count: usize, step: usize) -> Result<Vec<u16>, AllocErr
 
 // Lays 17 × 18 samples, settles a rectangle over the corner of four tiles, clears, settles another, and shows and reads what came of it.
 fn turns(heap: Global) -> Result<[Turn; 8], AllocError> {
-    let scratch = vec![in heap; BLANK; 306]?;
-    let more = vec![in heap; BLANK; 306]?;
-    let rest = vec![in heap; BLANK; 306]?;
+    let scratch = vec![in heap; Cell::BLANK; 306]?;
+    let more = vec![in heap; Cell::BLANK; 306]?;
+    let rest = vec![in heap; Cell::BLANK; 306]?;
     let output = vec![in heap; 0; 20]?;
     Ok([
-        asked(Call::Lay {
+        Turn::waiting(Call::Lay {
             plan: Plan {
                 rows: 17,
                 columns: 18,
@@ -53,7 +41,7 @@ fn turns(heap: Global) -> Result<[Turn; 8], AllocError> {
             },
             samples: samples(heap, 306, 37)?,
         }),
-        asked(Call::Lease {
+        Turn::waiting(Call::Lease {
             first: PlatePlace {
                 row: 14,
                 column: 13,
@@ -61,14 +49,14 @@ fn turns(heap: Global) -> Result<[Turn; 8], AllocError> {
             height: 3,
             width: 4,
         }),
-        asked(Call::Settle {
+        Turn::waiting(Call::Settle {
             plate: 7,
             serial: 1,
             samples: samples(heap, 12, 91)?,
             scratch,
         }),
-        asked(Call::Clear),
-        asked(Call::Lease {
+        Turn::waiting(Call::Clear),
+        Turn::waiting(Call::Lease {
             first: PlatePlace {
                 row: 16,
                 column: 17,
@@ -76,13 +64,13 @@ fn turns(heap: Global) -> Result<[Turn; 8], AllocError> {
             height: 1,
             width: 1,
         }),
-        asked(Call::Settle {
+        Turn::waiting(Call::Settle {
             plate: 7,
             serial: 2,
             samples: samples(heap, 1, 0)?,
             scratch: more,
         }),
-        asked(Call::Preview {
+        Turn::waiting(Call::Preview {
             card: Card { level: 2 },
             first: LatticePlace { row: 0, column: 0 },
             height: 4,
@@ -90,7 +78,7 @@ fn turns(heap: Global) -> Result<[Turn; 8], AllocError> {
             scratch: rest,
             output,
         }),
-        asked(Call::Read {
+        Turn::waiting(Call::Read {
             card: Card { level: 1 },
             at: LatticePlace { row: 8, column: 8 },
         }),
@@ -143,7 +131,7 @@ fn check_turns(rt: &impl Abort, a: &[Turn], b: &[Turn]) -> Result<(), Fail> {
     assert_eq!(rt; a.len(), b.len());
     for (x, y) in a.iter().zip(b.iter()) {
         assert_eq!(rt; x.answer, y.answer);
-        assert_ne!(rt; x.answer, Answer::Pending);
+        assert!(rt; x.answer.is_some());
         check_output(rt, &x.call, &y.call)?;
     }
     Ok(())
@@ -166,7 +154,7 @@ fn check_after_the_slots(rt: &impl Abort, bytes: &[u8]) {
 #[test]
 fn a_tile_file_answers_as_the_flat_store(rt: HostRuntime) -> Result<(), Fail> {
     let heap = rt.alloc();
-    let mut cells = vec![in heap; BLANK; 306]?;
+    let mut cells = vec![in heap; Cell::BLANK; 306]?;
     let mut by_flat = turns(heap)?;
     let mut by_tiles = turns(heap)?;
     let flat = played(FlatStore::new(&mut cells, 17, 18), &mut by_flat);

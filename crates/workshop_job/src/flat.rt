@@ -12,12 +12,6 @@ use plates::calls::Turn;
 use scripts::script::Ending;
 use std::alloc::{AllocError, Global};
 
-// A cell of a store that is just made.
-const BLANK: Cell = Cell {
-    number: 0,
-    bit: false,
-};
-
 // How many records a store of these sides has; none where a side is too long for any.
 fn records(rows: usize, columns: usize) -> usize
     ensures is_the_area_of_a_store { result ≡ records rows columns }
@@ -33,7 +27,7 @@ fn records(rows: usize, columns: usize) -> usize
 fn blank_cells(heap: Global, rows: usize, columns: usize) -> Result<Vec<Cell>, AllocError>
     ensures are_blank { IfOk result (λ v. v.items ≡ replicate (records rows columns) blank) }
 {
-    vec![in heap; BLANK; records(rows, columns)]
+    vec![in heap; Cell::BLANK; records(rows, columns)]
 }
 
 // Executes the calls on a plate over a flat store whose cells are 0 and whose bits are unset; where there can be no such store, its fault

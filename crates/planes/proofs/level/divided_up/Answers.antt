@@ -3,8 +3,5 @@ use Rattle.std.proofs.Common.{sym, arith}
 use Rattle.planes.proofs.Lattices.{side_none, side_some}
 use Rattle.planes.proofs.level.divided_up.Goals as goal
 
-pub returns-then-count-eq0 : goal.returns-then-count-eq0
-returns-then-count-eq0 c = record { is_the_quotient_rounded_up = rw c.if-count-eq0.true (sym (side_none _)) }
-
 pub returns-else-count-eq0 : goal.returns-else-count-eq0
 returns-else-count-eq0 c = record { is_the_quotient_rounded_up = side_some _ _ (omega arith) }

@@ -22,23 +22,6 @@ unwrap-requires g c =
     let b = below k _ _ _ c.side-columns.ensures.is_the_lattices_side c.if-at-columns.true in
     present k c.args.at.row c.args.at.column c.on_plate.result c.on_plate.ensures.is_multiplied_or_too_large (omega (arith, c.rows-height.type_inv)) (omega (arith, c.columns-width.type_inv))
 
-pub returns-then-at-columns : goal.returns-then-at-columns
-returns-then-at-columns g c =
-    let k = c.args.self.now.level.number in
-    let at = rw c.unwrap.ensures at c.on_plate.ensures.is_multiplied_or_too_large in
-    let tall = c.rows-height.ensures.is_the_height in
-    let wide = c.columns-width.ensures.is_the_width in
-    let rows = c.side-rows.ensures.is_the_lattices_side in
-    let columns = c.side-columns.ensures.is_the_lattices_side in
-    record {
-      is_the_multiplied_place_inside = (
-        (rw (← tall, ← rows) c.if-at-rows.true, rw (← wide, ← columns) c.if-at-columns.true),
-        (rw (at.0, ← tall) (below k _ _ _ rows c.if-at-rows.true), rw (at.1, ← wide) (below k _ _ _ columns c.if-at-columns.true)),
-        at.0,
-        at.1,
-      );
-    }
-
 pub returns-else-at-rows : goal.returns-else-at-rows
 returns-else-at-rows g c =
     let k = c.args.self.now.level.number in let p = g.S.Plane.picture c.args.self.now.below in

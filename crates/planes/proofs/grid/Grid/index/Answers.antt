@@ -3,11 +3,5 @@ use Rattle.std.proofs.Common.{length, rules}
 use Rattle.planes.proofs.Rowwise.{place_is}
 use Rattle.planes.proofs.grid.Grid.index.Goals as goal
 
-pub overflow_mul-result : goal.overflow_mul-result
-overflow_mul-result g c = let h = (place_is c.args.self.now.rows c.args.self.now.columns (length c.args.self.now.cells.now) _ _ _ _ c.height-height.ensures.is_the_rows_or_none c.width-width.ensures.is_the_columns_or_none c.if-row-height.true c.if-column-width.true).2 in search rules
-
-pub overflow_add-result : goal.overflow_add-result
-overflow_add-result g c = let h = (place_is c.args.self.now.rows c.args.self.now.columns (length c.args.self.now.cells.now) _ _ _ _ c.height-height.ensures.is_the_rows_or_none c.width-width.ensures.is_the_columns_or_none c.if-row-height.true c.if-column-width.true).2 in search rules
-
 pub returns-then-column-width : goal.returns-then-column-width
 returns-then-column-width g c = record { is_the_index_inside = place_is c.args.self.now.rows c.args.self.now.columns (length c.args.self.now.cells.now) _ _ _ _ c.height-height.ensures.is_the_rows_or_none c.width-width.ensures.is_the_columns_or_none c.if-row-height.true c.if-column-width.true }
