@@ -120,21 +120,17 @@ fn take_line(
     index: usize,
     step: usize,
 ) -> Result<Vec<i64>, AllocError> {
-    let mut line = Vec::new(heap);
     let whole = match way {
         Way::Down => picture.height(),
         Way::Along => picture.width(),
     };
-    for i in 0..whole {
-        if i.checked_rem(step) == Some(0) {
-            let number = match way {
-                Way::Down => picture.get(i, index),
-                Way::Along => picture.get(index, i),
-            };
-            line.push(number)?;
-        }
-    }
-    Ok(line)
+    (0..whole)
+        .filter(|i| i.checked_rem(step) == Some(0))
+        .map(|i| match way {
+            Way::Down => picture.get(i, index),
+            Way::Along => picture.get(index, i),
+        })
+        .collect(heap)
 }
 
 fn put_line(picture: &mut Rows, way: Way, index: usize, step: usize, line: &[i64]) {
@@ -159,12 +155,10 @@ fn lift_lines(
         Way::Down => picture.width(),
         Way::Along => picture.height(),
     };
-    for index in 0..across {
-        if index.checked_rem(step) == Some(0) {
-            let mut line = take_line(heap, picture, way, index, step)?;
-            lift_line(kernel, &mut line);
-            put_line(picture, way, index, step, &line);
-        }
+    for index in (0..across).filter(|index| index.checked_rem(step) == Some(0)) {
+        let mut line = take_line(heap, picture, way, index, step)?;
+        lift_line(kernel, &mut line);
+        put_line(picture, way, index, step, &line);
     }
     Ok(())
 }

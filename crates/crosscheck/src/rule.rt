@@ -9,17 +9,11 @@ fn is_member(n: i64, first: i64, last: i64, i: i64) -> bool {
 
 // The next span: from half the first even member to half the last.
 fn next_span(n: i64, first: i64, last: i64) -> (i64, i64) {
-    let mut low = -1i64;
-    let mut high = -1i64;
-    for i in 0..n {
-        if i % 2 == 0 && is_member(n, first, last, i) {
-            if low < 0 {
-                low = i / 2;
-            }
-            high = i / 2;
-        }
-    }
-    (low, high)
+    let mut halves = (0..n)
+        .filter(|i| i % 2 == 0 && is_member(n, first, last, *i))
+        .map(|i| i / 2);
+    let low = halves.next().unwrap_or(-1);
+    (low, halves.last().unwrap_or(low))
 }
 
 fn halved_up(n: i64) -> i64 {

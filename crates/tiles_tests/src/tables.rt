@@ -172,10 +172,9 @@ fn a_put_changes_five_bytes(rt: HostRuntime) -> Result<(), Fail> {
 fn clearing_empties_every_byte_of_bits(rt: HostRuntime) -> Result<(), Fail> {
     let mut expected = filled(&rt, rt.alloc())?;
     for slot in 0..4 {
-        for k in 0..32 {
-            assert!(rt; 12 + 1056 * slot + 1024 + k < expected.len());
-            expected[12 + 1056 * slot + 1024 + k] = 0;
-        }
+        let bits = 12 + 1056 * slot + 1024;
+        assert!(rt; bits + 32 <= expected.len());
+        expected[bits..bits + 32].fill(0);
     }
     let mut file = TileFile::open(filled(&rt, rt.alloc())?);
     file.clear();
