@@ -1,6 +1,5 @@
 // The line of an answer.
-ghost use Rattle.std.specs.Prelude.{◌≡◌, ◌*◌, ◌++◌, take, Some, IfOk, string_bytes};
-ghost use Rattle.std.specs.List.{flat_map};
+ghost use Rattle.std.specs.Prelude.{◌≡◌, ◌*◌, take, Some, IfOk, string_bytes};
 ghost use Rattle.answers.specs.Lines.{fault_line, preview_line, bit_words, line_of, answer_lines};
 
 use faults::fault::Fault;

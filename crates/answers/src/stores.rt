@@ -1,5 +1,5 @@
 // A store as lines of text: its sides, and its cells row by row.
-ghost use Rattle.std.specs.Prelude.{◌≡◌, ◌<◌, ◌++◌, Some, IfOk, string_bytes, codes};
+ghost use Rattle.std.specs.Prelude.{◌≡◌, ◌<◌, Some, IfOk, string_bytes};
 ghost use Rattle.answers.specs.Stores.{gap_text, star_text, cell_text, row_line, store_text};
 
 use planes::plane::{Plane, Store};

@@ -29,6 +29,16 @@ struct Side {
 }
 
 impl Side {
+    // A side of the plate, and so many places of it from the first on.
+    fn new(size: usize, first: usize, count: usize) -> Side {
+        let first = wide(first);
+        Side {
+            size: wide(size),
+            first,
+            last: first.wrapping_add(wide(count)).wrapping_sub(1),
+        }
+    }
+
     fn up(self) -> Side {
         let (first, last) = next_span(self.size, self.first, self.last);
         Side {
@@ -78,19 +88,7 @@ pub fn is_reached(
     row: usize,
     column: usize,
 ) -> bool {
-    let rows = Side {
-        size: wide(height),
-        first: wide(rectangle.first_row),
-        last: wide(rectangle.first_row)
-            .wrapping_add(wide(rectangle.height))
-            .wrapping_sub(1),
-    };
-    let columns = Side {
-        size: wide(width),
-        first: wide(rectangle.first_column),
-        last: wide(rectangle.first_column)
-            .wrapping_add(wide(rectangle.width))
-            .wrapping_sub(1),
-    };
+    let rows = Side::new(height, rectangle.first_row, rectangle.height);
+    let columns = Side::new(width, rectangle.first_column, rectangle.width);
     is_in_cone(rows, columns, levels, wide(row), wide(column))
 }

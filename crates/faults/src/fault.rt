@@ -59,6 +59,7 @@ pub enum Fault {
 }
 
 impl Layer {
+    // The number by which files name the layer.
     pub fn number(self) -> u8
         ensures is_the_layers_number { result ≡ layer_number self }
     {
@@ -67,6 +68,7 @@ impl Layer {
 }
 
 impl Fault {
+    // The number by which files and people name the case; a case that holds a place has no discriminant to cast.
     pub fn number(self) -> u8
         ensures is_the_faults_number { result ≡ fault_number self }
     {
@@ -110,7 +112,7 @@ impl Fault {
         }
     }
 
-    // The place, 0 where the case has none.
+    // The place, 0 where the case has none: a fault's frame always has one.
     pub fn place(self) -> usize
         ensures is_the_place_or_zero { result ≡ fault_place self }
     {

@@ -1,7 +1,7 @@
 // Frames of bytes written as lines of capital hexadecimal, each with a check byte.
 #![tactic(auto)]
 
-ghost use Rattle.std.specs.Prelude.{◌≡◌, ℕ, ◌+◌, ◌*◌, ◌<◌, ◌≤◌, length, MatchOption};
+ghost use Rattle.std.specs.Prelude.{◌≡◌, ◌+◌, ◌*◌, ◌<◌, ◌≤◌, length, MatchOption};
 ghost use Rattle.frames.specs.Frames.{hex_digit, hex_byte, check_byte, frame_line, fault_frame, two_bytes, four_bytes, over};
 
 use faults::fault::Fault;

@@ -54,6 +54,7 @@ pub fn put_record(
     ensures puts_the_record { PutsRecord (made_side rows columns (length cells.old) rows) (made_side rows columns (length cells.old) columns)
         (at.row * 2 ^ level.number) (at.column * 2 ^ level.number) number cells.old cells.new }
 {
+    // what is an answer there is an error here
     if let Some(fault) = FlatStore::fault(cells, rows, columns) {
         return Err(fault);
     }

@@ -1,7 +1,18 @@
--- The size of an amount.
-use Rattle.std.proofs.Common.{◌≡◌, ◌≤◌, max, ℤ, nat_abs, arith, w32, SFits}
-use Rattle.std.proofs.lemmas.Int.{ints}
+-- Steps by their amounts.
+use Rattle.std.proofs.Common.{◌≡◌, Bool, true, false, ℤ, ◌+ℤ◌, ◌-ℤ◌, refl, sym}
+use Rattle.std.proofs.lemmas.Bool.{false≢true}
+use Rattle.wavelets.specs.Lifting.{Amounts}
+use Rattle.lifting.specs.Passes.{step_rule, amount_of}
 
--- z, which is the amount y of two numbers of 32 bits
-pub amount_size : (a b y z : ℤ) → SFits w32 a → SFits w32 b → z ≡ y → nat_abs y ≤ max (nat_abs a) (nat_abs b) → nat_abs z ≤ 2147483648
-amount_size a b y z f g e h = rw e (omega (arith, ints))
+-- what a step makes of a number
+pub lowered_is : (odd l : Bool) (K : Amounts) (z a b : ℤ) → l ≡ true → (step_rule odd l).result K z a b ≡ z -ℤ amount_of odd K a b
+lowered_is true true K z a b e = refl
+lowered_is false true K z a b e = refl
+lowered_is true false K z a b e = absurd (false≢true e)
+lowered_is false false K z a b e = absurd (false≢true e)
+
+pub raised_is : (odd l : Bool) (K : Amounts) (z a b : ℤ) → l ≡ false → (step_rule odd l).result K z a b ≡ z +ℤ amount_of odd K a b
+raised_is true false K z a b e = refl
+raised_is false false K z a b e = refl
+raised_is true true K z a b e = absurd (false≢true (sym e))
+raised_is false true K z a b e = absurd (false≢true (sym e))

@@ -1,5 +1,5 @@
 -- Lifting of 32-bit cells in place: what the passes make of a picture and of its bits, whatever numbers it holds.
-use Rattle.std.specs.Prelude.{◌≡◌, ℕ, ◌^◌, ◌<◌, ◌≤◌, min, Bool, true, ◌&&◌, ◌||◌, ℤ, pos, negsuc, ◌+ℤ◌, ◌-ℤ◌, nat_lt}
+use Rattle.std.specs.Prelude.{◌≡◌, ℕ, ◌^◌, ◌<◌, ◌≤◌, min, Bool, true, false, ◌&&◌, ◌||◌, ℤ, pos, negsuc, ◌+ℤ◌, ◌-ℤ◌, nat_lt}
 use Rattle.planes.specs.Planes.{Cells, Picture}
 use Rattle.wavelets.specs.Lifting.{Amounts, LineWork, Plane, PlaneWork, step, rows, columns, size, on, lattice, climb, descend, forward, Agree, Bounded, within_budget}
 use Rattle.wavelets.specs.Theorems.{LiftingWithin}
@@ -28,6 +28,18 @@ undoing_update = record { parity = 0; result = λ K z a b. z -ℤ K.update a b }
 
 abbrev pub undoing_predict : StepRule
 undoing_predict = record { parity = 1; result = λ K z a b. z +ℤ K.predict a b }
+
+-- The step that changes the odd places, or the even ones, and lowers them, or raises them.
+abbrev pub step_rule : Bool → Bool → StepRule
+step_rule true true = predicting
+step_rule true false = undoing_predict
+step_rule false true = undoing_update
+step_rule false false = updating
+
+-- The amount by which it does: that of predicting at the odd places, and that of updating at the even ones.
+abbrev pub amount_of : Bool → Amounts → ℤ → ℤ → ℤ
+amount_of true K = K.predict
+amount_of false K = K.update
 
 -- Along the rows, or along the columns.
 pub data Direction : Type 0 where

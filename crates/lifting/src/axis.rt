@@ -1,12 +1,13 @@
 // The two directions of lifting, as types: a sweep is compiled for each.
-ghost use Rattle.std.specs.Prelude.{◌≡◌, ℕ, ◌+◌, ◌*◌, ◌^◌, ◌<◌, ◌≤◌};
+ghost use Rattle.std.specs.Prelude.{◌≡◌, ◌+◌, ◌*◌, ◌^◌, ◌<◌, ◌≤◌};
 ghost use Rattle.wavelets.specs.Lifting.{left, right};
 ghost use Rattle.lifting.specs.Passes.{Direction, horizontal, vertical};
 ghost use Rattle.lifting.specs.Walks.{changed_count, walked_rows, walked_columns, row_of, column_of, left_row, left_column, right_row, right_column, HasNeighbours};
 
 use planes::places::LatticePlace;
 
-// How a sweep goes through a plane: row by row whichever the direction, over the places of one parity along it.
+// How a sweep goes through a plane: row by row whichever the direction, over the places of one parity along it. The parity is a number, 0 or
+// 1, since it is added to places.
 pub trait Axis {
     ghost direction: { Direction };
 

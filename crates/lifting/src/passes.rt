@@ -1,5 +1,5 @@
 // The forward transform and its inverse, in place, over any store and kernel.
-ghost use Rattle.std.specs.Prelude.{◌≡◌, ℕ, ◌≤◌, Bool, false};
+ghost use Rattle.std.specs.Prelude.{◌≡◌, false};
 ghost use Rattle.wavelets.specs.Lifting.{round};
 ghost use Rattle.lifting.specs.Passes.{worked, with_bits, cell_forward, cell_undo, rounds_put, ShowsTheTransform, ShowsTheRoundsBelow, ForwardIsTheTransform, UndoingLeavesTheRoundsBelow};
 ghost use Rattle.lifting.specs.Walks.{lattice_puts};

@@ -1,6 +1,6 @@
-// The four steps of lifting, as types: a sweep is compiled for each.
+// The four steps of lifting, as cases of one type: a sweep is compiled for each.
 ghost use Rattle.std.specs.Prelude.{◌≡◌, ◌≤◌, ◌+ℤ◌, ◌-ℤ◌, unsigned_abs};
-ghost use Rattle.lifting.specs.Passes.{to_cell, StepRule, predicting, updating, undoing_update, undoing_predict};
+ghost use Rattle.lifting.specs.Passes.{to_cell, StepRule, amount_of, step_rule};
 
 use kernels::kernel::Kernel;
 
@@ -24,96 +24,43 @@ pub fn to_cell(number: i64) -> i32
     number.clamp(-2147483648, 2147483647) as i32
 }
 
-// A number lowered and raised by an amount.
-fn lowered(number: i32, amount: i64) -> i32
-    requires { unsigned_abs amount ≤ 2147483648 }
-    ensures is_the_difference_as_a_cell { result ≡ to_cell (number -ℤ amount) }
-{
-    to_cell(number as i64 - amount)
-}
-
-fn raised(number: i32, amount: i64) -> i32
-    requires { unsigned_abs amount ≤ 2147483648 }
-    ensures is_the_sum_as_a_cell { result ≡ to_cell (number +ℤ amount) }
-{
-    to_cell(number as i64 + amount)
-}
-
-// The predict amount, whose size the kernel's law bounds.
-fn predict_amount<K: Kernel>(kernel: &K, left: i32, right: i32) -> i64
-    ensures is_the_amount { result ≡ (K.Kernel.amounts kernel.now).predict left right }
+// The amount of a step at the odd places or at the even ones, whose size the kernel's law bounds.
+fn amount<const ODD: bool, K: Kernel>(kernel: &K, left: i32, right: i32) -> i64
+    ensures is_the_amount { result ≡ amount_of ODD (K.Kernel.amounts kernel.now) left right }
     ensures is_at_most_the_neighbours { unsigned_abs result ≤ 2147483648 }
 {
-    kernel.predict(left, right)
+    if ODD {
+        kernel.predict(left, right)
+    } else {
+        kernel.update(left, right)
+    }
 }
 
-fn update_amount<K: Kernel>(kernel: &K, left: i32, right: i32) -> i64
-    ensures is_the_amount { result ≡ (K.Kernel.amounts kernel.now).update left right }
-    ensures is_at_most_the_neighbours { unsigned_abs result ≤ 2147483648 }
-{
-    kernel.update(left, right)
-}
-
-// Lowers the odd places by the predict amount.
+// The odd places are changed by the predict amount, and the even ones by the update amount; they are lowered by it, or raised.
 #[derive(Clone, Copy)]
-pub struct Predict;
+pub struct Change<const ODD: bool, const LOWERED: bool>;
 
-impl Step for Predict {
-    ghost rule = { predicting };
+pub type Predict = Change<true, true>;
+
+pub type Update = Change<false, false>;
+
+pub type UndoUpdate = Change<false, true>;
+
+pub type UndoPredict = Change<true, false>;
+
+impl<const ODD: bool, const LOWERED: bool> Step for Change<ODD, LOWERED> {
+    ghost rule = { step_rule ODD LOWERED };
 
     fn parity() -> usize {
-        1 // the odd places are predicted
+        if ODD { 1 } else { 0 }
     }
 
     fn result<K: Kernel>(kernel: &K, number: i32, left: i32, right: i32) -> i32 {
-        lowered(number, predict_amount(kernel, left, right))
-    }
-}
-
-// Raises the even places by the update amount.
-#[derive(Clone, Copy)]
-pub struct Update;
-
-impl Step for Update {
-    ghost rule = { updating };
-
-    fn parity() -> usize {
-        0 // the even places are updated
-    }
-
-    fn result<K: Kernel>(kernel: &K, number: i32, left: i32, right: i32) -> i32 {
-        raised(number, update_amount(kernel, left, right))
-    }
-}
-
-// Lowers the even places by the update amount.
-#[derive(Clone, Copy)]
-pub struct UndoUpdate;
-
-impl Step for UndoUpdate {
-    ghost rule = { undoing_update };
-
-    fn parity() -> usize {
-        0 // the even places were updated
-    }
-
-    fn result<K: Kernel>(kernel: &K, number: i32, left: i32, right: i32) -> i32 {
-        lowered(number, update_amount(kernel, left, right))
-    }
-}
-
-// Raises the odd places by the predict amount.
-#[derive(Clone, Copy)]
-pub struct UndoPredict;
-
-impl Step for UndoPredict {
-    ghost rule = { undoing_predict };
-
-    fn parity() -> usize {
-        1 // the odd places were predicted
-    }
-
-    fn result<K: Kernel>(kernel: &K, number: i32, left: i32, right: i32) -> i32 {
-        raised(number, predict_amount(kernel, left, right))
+        let amount = amount::<ODD, K>(kernel, left, right);
+        if LOWERED {
+            to_cell(number as i64 - amount)
+        } else {
+            to_cell(number as i64 + amount)
+        }
     }
 }

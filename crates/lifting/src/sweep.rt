@@ -1,5 +1,5 @@
 // One step of lifting on every line of a direction, row by row.
-ghost use Rattle.std.specs.Prelude.{◌≡◌, ℕ, ◌<◌, Bool, true, false};
+ghost use Rattle.std.specs.Prelude.{◌≡◌, true, false};
 ghost use Rattle.planes.specs.Planes.{Within, written, marked};
 ghost use Rattle.lifting.specs.Passes.{swept};
 ghost use Rattle.lifting.specs.Walks.{changes, changed};

@@ -1,5 +1,5 @@
 // Planes at work over the flat store, by value and lent.
-ghost use Rattle.std.specs.Prelude.{◌≡◌, false};
+ghost use Rattle.std.specs.Prelude.{◌≡◌};
 ghost use Rattle.overlays.specs.Overlays.{overlaid_picture};
 ghost use Rattle.overlays.specs.Samples.{samples_at, pictured};
 ghost use Rattle.lifting.specs.Passes.{worked, cell_forward};

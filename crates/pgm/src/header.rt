@@ -89,6 +89,7 @@ impl Reader<'_> {
         ensures stays_within { self.new.at ≤ length self.old.bytes.now }
         ensures keeps_the_bytes { self.new.bytes.now ≡ self.old.bytes.now }
     {
+        // the place is part of the answer, so the reader keeps it
         let mut state = from;
         while self.at < self.bytes.len() {
             state = state.step(class_of(self.bytes[self.at]));

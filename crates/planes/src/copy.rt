@@ -21,7 +21,8 @@ fn check_copy(rows: usize, columns: usize, rectangle: Rectangle, room: usize) ->
     Ok(())
 }
 
-// The fault that copying a rectangle of a plane of some rows and columns into an output of some length would meet.
+// The fault that copying a rectangle of a plane of some rows and columns into an output of some length would meet. A question: its answer
+// is the fault, and it cannot fail.
 pub fn copy_fault(rows: usize, columns: usize, rectangle: Rectangle, room: usize) -> Option<Fault>
     ensures is_the_first_that_holds { result ≡ copy_fault rows columns rectangle room }
 {

@@ -15,6 +15,7 @@ pub type FlatStore<'a> = Grid<'a, Cell>;
 
 impl<'a> Grid<'a, Cell> {
     // The fault that making a store would meet: a side that is 0 or over 4,096, then a buffer with too few records.
+    // A question: its answer is the fault, and it cannot fail.
     pub fn fault(cells: &[Cell], rows: usize, columns: usize) -> Option<Fault>
         ensures is_the_first_that_holds { result ≡ flat_fault rows columns (length cells.now) }
     {

@@ -17,7 +17,7 @@ impl Lease {
         Lease { plate, serial }
     }
 
-    // The two numbers of a lease that is spent.
+    // The two numbers of a lease that is spent; each caller names them at once.
     pub(crate) fn spent(self) -> (u32, u32)
         ensures answers_the_plates_number { result.0 ≡ self.plate }
         ensures answers_the_serial { result.1 ≡ self.serial }

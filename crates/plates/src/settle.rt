@@ -47,6 +47,7 @@ impl<S: Store, K: Kernel> Plate<S, K> {
         let (plate, serial) = lease.spent();
         let (plan, rectangle) = match self.check_settling(plate, serial, samples, scratch.len()) {
             Ok(leased) => leased,
+            // not `?`: for some faults the lease ends on the way out
             Err(fault) => {
                 if is_end_of_lease(fault) {
                     self.lease = None;

@@ -1,5 +1,5 @@
 // The number that a word writes.
-ghost use Rattle.std.specs.Prelude.{◌≡◌, ℕ, ◌+◌, ◌-◌, ◌*◌, ◌≤◌, true, MatchOption};
+ghost use Rattle.std.specs.Prelude.{◌≡◌, ◌+◌, ◌-◌, ◌*◌, ◌≤◌, true, MatchOption};
 ghost use Rattle.script_words.specs.Numbers.{is_digit, number};
 
 // A number with one more digit; none where the byte is no digit, or the number is too large.

@@ -39,7 +39,7 @@ pub fn read_script(heap: Global, text: &[u8]) -> Result<Script, Trouble>
         draft = draft
             .with_line(heap, words)
             .map_err(|flaw| trouble_at(line, flaw))?;
-        line += 1;
+        line += 1; // after the loop, the number of the line after the text
     }
     draft.into_script(line)
 }

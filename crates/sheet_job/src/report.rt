@@ -1,5 +1,5 @@
 // The whole job as one call.
-ghost use Rattle.std.specs.Prelude.{◌≡◌, ◌*◌, ◌≤◌, length, IfOk};
+ghost use Rattle.std.specs.Prelude.{◌≡◌, ◌≤◌, length, IfOk};
 ghost use Rattle.sheet_job.specs.Reports.{plan_of as laid_by, SheetOrFault, Reports};
 
 use crate::laying::lay_and_write;

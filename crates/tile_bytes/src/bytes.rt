@@ -1,5 +1,5 @@
 // Bytes and numbers of two and four bytes, high byte first. Past the end bytes are read as 0, and written nowhere.
-ghost use Rattle.std.specs.Prelude.{◌≡◌, ℕ, ◌+◌, ◌^◌, ◌<◌, slice_set};
+ghost use Rattle.std.specs.Prelude.{◌≡◌, ◌+◌, ◌^◌, ◌<◌, slice_set};
 ghost use Rattle.tile_bytes.specs.Bytes.{byte, word, number, with_bytes};
 
 // A place among bytes, so small that the bytes after it can be counted from it.

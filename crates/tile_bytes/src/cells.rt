@@ -1,5 +1,5 @@
 // The cell of a place: its number and its change bit, in the slot of its tile.
-ghost use Rattle.std.specs.Prelude.{◌≡◌, ℕ, ◌+◌, ◌*◌};
+ghost use Rattle.std.specs.Prelude.{◌≡◌, ◌+◌, ◌*◌};
 ghost use Rattle.tile_bytes.specs.Layout.{tile_count, slot_of, slot_start, slot_number, slot_bit, with_cell, without_cell_bit, PutChangesOneCell, UnsetChangesOneBit};
 
 use crate::bits::{bit_at, clear_bit, set_bit};

@@ -1,5 +1,5 @@
 // The head of a tile file: rows, columns and the slot number of each tile, two bytes each.
-ghost use Rattle.std.specs.Prelude.{◌≡◌, ℕ, ◌+◌, ◌*◌};
+ghost use Rattle.std.specs.Prelude.{◌≡◌, ◌+◌, ◌*◌};
 ghost use Rattle.frames.specs.Frames.{two_bytes};
 ghost use Rattle.tile_bytes.specs.Bytes.{word, with_two};
 ghost use Rattle.tile_bytes.specs.Layout.{slot_of};

@@ -1,5 +1,5 @@
 // The sides of a plate in tiles of 16 × 16 places.
-ghost use Rattle.std.specs.Prelude.{◌≡◌, ℕ, ◌+◌, ◌*◌, ◌/◌, ◌<◌, ◌≤◌, MatchOption};
+ghost use Rattle.std.specs.Prelude.{◌≡◌, ◌+◌, ◌*◌, ◌/◌, ◌<◌, ◌≤◌, MatchOption};
 ghost use Rattle.tile_bytes.specs.Layout.{tiles_along, tile_count, slots_end, tile_of, cell_of};
 
 // Rows and columns, as the first four bytes of a file hold them.

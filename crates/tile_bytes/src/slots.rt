@@ -1,5 +1,5 @@
 // All slots of a file at once.
-ghost use Rattle.std.specs.Prelude.{ℕ, ◌+◌, ◌*◌};
+ghost use Rattle.std.specs.Prelude.{◌+◌, ◌*◌};
 ghost use Rattle.tile_bytes.specs.Layout.{tile_count};
 ghost use Rattle.tile_bytes.specs.Slots.{Zeroed, between, in_slots, holds_bits};
 

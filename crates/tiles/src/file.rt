@@ -1,5 +1,5 @@
 // An open tile file: a plane over bytes that are owned or borrowed, and a store where they are owned.
-ghost use Rattle.std.specs.Prelude.{◌≡◌, ℕ, true, false, ⊤};
+ghost use Rattle.std.specs.Prelude.{◌≡◌, true, false, ⊤};
 ghost use Rattle.tiles.specs.Opening.{height, width};
 ghost use Rattle.tiles.specs.Files.{file_picture, file_bits, FileFrame, file_still, file_onward, PutsFile, ClearsFile};
 ghost use Rattle.planes.specs.Planes.{PutsNumber, PutsBit, unmarked};

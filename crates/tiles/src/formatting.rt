@@ -1,5 +1,5 @@
 // Making a tile file of given sides, with every number 0 and no bit set.
-ghost use Rattle.std.specs.Prelude.{ℕ, ◌+◌, ◌*◌, ◌≤◌, length};
+ghost use Rattle.std.specs.Prelude.{◌+◌, ◌*◌, ◌≤◌, length};
 ghost use Rattle.tile_bytes.specs.Layout.{tile_count, slots_end};
 ghost use Rattle.tiles.specs.Formatting.{Judged, Numbered, Formatted, Formats, AFormattedFileIsBlank};
 

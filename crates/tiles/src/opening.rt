@@ -1,5 +1,5 @@
 // Whether a tile file can be opened, and with which sides.
-ghost use Rattle.std.specs.Prelude.{◌≡◌, ℕ, false, ◌||◌, nat_le, slice_index_or, MatchResult};
+ghost use Rattle.std.specs.Prelude.{◌≡◌, false, ◌||◌, nat_le, slice_index_or, MatchResult};
 ghost use Rattle.planes.specs.Flat.{bad_side};
 ghost use Rattle.tiles.specs.Opening.{rows_said, columns_said, first_bad_slot, tile_fault, height, width, AnOpenedFileIsSound};
 
@@ -65,7 +65,7 @@ fn judge(bytes: &[u8]) -> Result<Sides, Fault>
     Ok(sides)
 }
 
-// The fault that opening a file would meet.
+// The fault that opening a file would meet. A question: its answer is the fault, and it cannot fail.
 pub fn fault(bytes: &[u8]) -> Option<Fault>
     ensures is_the_first_that_holds { result ≡ tile_fault bytes.now }
 {

@@ -1,5 +1,5 @@
 // A list of calls on a plate over any store, and what it prints.
-ghost use Rattle.std.specs.Prelude.{◌≡◌, IfOk};
+ghost use Rattle.std.specs.Prelude.{IfOk};
 ghost use Rattle.plates.specs.Runs.{just_made};
 ghost use Rattle.workshop_job.specs.Performances.{Performed};
 

@@ -32,25 +32,21 @@ const TOO_LONG: &str = "plate 9 S 4096 4097\nrecall";
 
 const NO_STORE_PRINT: &str = "fault 1 2 0 the rows or columns are 0 or over 4096\n";
 
-fn check_flat(rt: &impl Abort, heap: Global, text: &str, expected: &str) -> Result<(), Fail> {
-    let mut script = read_script(heap, text.as_bytes())?;
-    let Opening::Plate {
-        number,
-        kernel,
-        rows,
-        columns,
-    } = script.opening
-    else {
-        assert!(rt; false, "no new plate");
-        return Ok(());
-    };
-    let turns = &mut script.turns;
-    let printed = perform_flat(heap, number, kernel, rows, columns, turns, &script.endings)?;
-    assert_eq!(rt; printed.as_slice(), expected.as_bytes());
-    Ok(())
+// Where the cells of a new plate are kept.
+#[derive(Clone, Copy)]
+enum Kept {
+    InRecords,
+    InAFile,
 }
 
-fn check_filed(rt: &impl Abort, heap: Global, text: &str, expected: &str) -> Result<(), Fail> {
+// What a script prints whose plate is new.
+fn check_printed(
+    rt: &impl Abort,
+    heap: Global,
+    kept: Kept,
+    text: &str,
+    expected: &str,
+) -> Result<(), Fail> {
     let mut script = read_script(heap, text.as_bytes())?;
     let Opening::Plate {
         number,
@@ -63,29 +59,35 @@ fn check_filed(rt: &impl Abort, heap: Global, text: &str, expected: &str) -> Res
         return Ok(());
     };
     let turns = &mut script.turns;
-    let done = perform_new_file(heap, number, kernel, rows, columns, turns, &script.endings)?;
-    assert_eq!(rt; done.text.as_slice(), expected.as_bytes());
+    let endings = &script.endings;
+    let printed = match kept {
+        Kept::InRecords => perform_flat(heap, number, kernel, rows, columns, turns, endings)?,
+        Kept::InAFile => perform_new_file(
+            heap, number, kernel, rows, columns, turns, endings,
+        )?.text,
+    };
+    assert_eq!(rt; printed.as_slice(), expected.as_bytes());
     Ok(())
 }
 
 #[test]
 fn a_flat_store_prints_what_the_table_says(rt: HostRuntime) -> Result<(), Fail> {
     let heap = rt.alloc();
-    check_flat(&rt, heap, SHEETS, SHEETS_PRINT)?;
-    check_flat(&rt, heap, UNLAID, UNLAID_PRINT)?;
-    check_flat(&rt, heap, EDITED, EDITED_PRINT)?;
-    check_flat(&rt, heap, NO_SIDE, NO_STORE_PRINT)?;
-    check_flat(&rt, heap, TOO_LONG, NO_STORE_PRINT)
+    check_printed(&rt, heap, Kept::InRecords, SHEETS, SHEETS_PRINT)?;
+    check_printed(&rt, heap, Kept::InRecords, UNLAID, UNLAID_PRINT)?;
+    check_printed(&rt, heap, Kept::InRecords, EDITED, EDITED_PRINT)?;
+    check_printed(&rt, heap, Kept::InRecords, NO_SIDE, NO_STORE_PRINT)?;
+    check_printed(&rt, heap, Kept::InRecords, TOO_LONG, NO_STORE_PRINT)
 }
 
 #[test]
 fn a_tile_file_prints_the_same(rt: HostRuntime) -> Result<(), Fail> {
     let heap = rt.alloc();
-    check_filed(&rt, heap, SHEETS, SHEETS_PRINT)?;
-    check_filed(&rt, heap, UNLAID, UNLAID_PRINT)?;
-    check_filed(&rt, heap, EDITED, EDITED_PRINT)?;
-    check_filed(&rt, heap, NO_SIDE, NO_STORE_PRINT)?;
-    check_filed(&rt, heap, TOO_LONG, NO_STORE_PRINT)
+    check_printed(&rt, heap, Kept::InAFile, SHEETS, SHEETS_PRINT)?;
+    check_printed(&rt, heap, Kept::InAFile, UNLAID, UNLAID_PRINT)?;
+    check_printed(&rt, heap, Kept::InAFile, EDITED, EDITED_PRINT)?;
+    check_printed(&rt, heap, Kept::InAFile, NO_SIDE, NO_STORE_PRINT)?;
+    check_printed(&rt, heap, Kept::InAFile, TOO_LONG, NO_STORE_PRINT)
 }
 
 // Three bytes are no tile file: the fault is all that is printed, and there is nothing to save.

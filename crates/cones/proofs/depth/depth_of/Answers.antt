@@ -1,9 +1,6 @@
 use Rattle.std.proofs.Common.{◌≡◌, sym, ◌∙◌, arith}
-use Rattle.cones.proofs.Depths.{on_none, depth_is}
+use Rattle.cones.proofs.Depths.{depth_is}
 use Rattle.cones.proofs.depth.depth_of.Goals as goal
-
-pub loop-number-init : goal.loop-number-init
-loop-number-init c = on_none c.args.row c.args.column
 
 pub returns-then-not-is_on : goal.returns-then-not-is_on
 returns-then-not-is_on c =
