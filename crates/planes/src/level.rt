@@ -3,7 +3,7 @@ ghost use Rattle.std.specs.Prelude.{◌≡◌, ◌^◌, ◌<◌, ◌≤◌, Matc
 ghost use Rattle.planes.specs.Lattices.{lattice_side};
 
 // A level from 0 to 5: the lattice of level k has every 2^k-th row and column.
-#[derive(Clone, Copy)]
+#[derive(Clone, Copy, PartialEq, Eq, PartialOrd, Ord)]
 pub struct Level {
     pub number: usize,
     ghost at_most_five: { number ≤ 5 },

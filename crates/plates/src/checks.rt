@@ -1,9 +1,9 @@
 // The checks of laying, settling and previewing: each declines by the first row of its table that holds, and changes nothing.
-ghost use Rattle.std.specs.Prelude.{◌≡◌, ◌*◌, ◌^◌, ◌<◌, ◌≤◌, true, is_ok, IfOk, Some, None};
+ghost use Rattle.std.specs.Prelude.{◌≡◌, ◌*◌, ◌^◌, ◌<◌, ◌≤◌, true, is_ok, IfOk, Some, None, nat_lt, position};
 ghost use Rattle.wavelets.specs.Lifting.{within_budget};
 ghost use Rattle.model.specs.Calls.{samples_of, laying, settling, previewing};
 ghost use Rattle.faults.specs.Tables.{first_fault};
-ghost use Rattle.model.specs.Plain.{first_over, samples_table};
+ghost use Rattle.model.specs.Plain.{samples_table};
 ghost use Rattle.plates.specs.Plans.{lawful_plan};
 ghost use Rattle.plates.specs.Shows.{seen, own_fault, fault_in};
 
@@ -33,16 +33,11 @@ fn is_within_budget(top: usize, levels: Level) -> bool
     top * growth(levels) <= 2147483647
 }
 
-// The index of the first sample over the top, or their count.
-fn first_sample_over(samples: &[u16], top: usize) -> usize
-    ensures is_the_first_over { result ≡ first_over top (samples_of samples.now) }
+// The index of the first sample over the top, if there is one.
+fn first_sample_over(samples: &[u16], top: usize) -> Option<usize>
+    ensures is_the_first_over { result ≡ position (λ x. nat_lt top x) samples.now }
 {
-    for (i, sample) in samples.iter().enumerate() {
-        if *sample as usize > top {
-            return i;
-        }
-    }
-    samples.len()
+    samples.iter().position(|sample| *sample as usize > top)
 }
 
 impl<S: Store, K: Kernel> Plate<S, K> {
@@ -129,9 +124,8 @@ fn check_samples(samples: &[u16], area: usize, top: usize) -> Result<(), Fault>
     if samples.len() != area {
         return Err(Fault::SampleCount);
     }
-    let index = first_sample_over(samples, top);
-    if index < samples.len() {
-        return Err(Fault::Sample(Layer::Plate, index));
+    match first_sample_over(samples, top) {
+        Some(index) => Err(Fault::Sample(Layer::Plate, index)),
+        None => Ok(()),
     }
-    Ok(())
 }

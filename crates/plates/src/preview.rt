@@ -4,12 +4,12 @@ ghost use Rattle.model.specs.Calls.{previewing, done};
 ghost use Rattle.model.specs.Plain.{Setting, Plain};
 ghost use Rattle.plates.specs.Shows.{seen, own_fault, Shows, Follows, fault_in, answered, lattice_rectangle, preview_differences};
 
-use crate::settle::level_of;
 use crate::state::Plate;
 use faults::fault::Fault;
 use kernels::kernel::Kernel;
 use model::card::Card;
 use planes::cell::Cell;
+use planes::level::Level;
 use planes::places::LatticePlace;
 use planes::plane::{Plane, Store};
 use planes::rectangle::Rectangle;
@@ -42,7 +42,9 @@ impl<S: Store, K: Kernel> Plate<S, K> {
         let (plan, level) = self.check_preview(card, rectangle, scratch.len(), output.len())?;
         let transform = Transform {
             kernel: &self.kernel,
-            levels: level_of(plan.levels),
+            levels: Level {
+                number: plan.levels,
+            },
         };
         let _ = transform.preview(&self.store, level, rectangle, scratch, output);
         Ok(())

@@ -13,13 +13,6 @@ use planes::level::Level;
 use planes::plane::{Plane, Store};
 use works::transform::Transform;
 
-// The level of a plan's levels; 0 where there are more than five, which no plan of a plate has.
-pub(crate) fn level_of(levels: usize) -> Level
-    ensures is_the_level { levels ≤ 5 → result.number ≡ levels }
-{
-    Level::new(levels).unwrap_or(Level { number: 0 })
-}
-
 // Whether a fault of a settlement ends the lease all the same.
 fn is_end_of_lease(fault: Fault) -> bool
     ensures tells_whether_the_lease_ends { result ≡ ends_the_lease fault }
@@ -58,7 +51,9 @@ impl<S: Store, K: Kernel> Plate<S, K> {
         self.lease = None;
         let transform = Transform {
             kernel: &self.kernel,
-            levels: level_of(plan.levels),
+            levels: Level {
+                number: plan.levels,
+            },
         };
         let count = transform.settle(&mut self.store, rectangle, samples, scratch);
         Ok(count.unwrap_or(0))

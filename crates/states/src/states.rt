@@ -145,15 +145,12 @@ impl<S: Store> WorkPlane<S, CellNumbers> {
     {
         let WorkPlane { store, numbers } = self;
         let level = numbers.level;
-        let left = if down_to.number < level.number {
-            down_to
-        } else {
-            level
-        };
         let store = inverse(store, kernel, level, down_to);
         WorkPlane {
             store,
-            numbers: ResolutionNumbers { level: left },
+            numbers: ResolutionNumbers {
+                level: down_to.min(level),
+            },
         }
     }
 

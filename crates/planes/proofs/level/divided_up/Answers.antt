@@ -1,6 +1,6 @@
 -- The two cases of rounding up.
-use Rattle.std.proofs.Common.{sym, arith}
-use Rattle.planes.proofs.Lattices.{side_none, side_some}
+use Rattle.std.proofs.Common.{arith}
+use Rattle.planes.proofs.Lattices.{side_some}
 use Rattle.planes.proofs.level.divided_up.Goals as goal
 
 pub returns-else-count-eq0 : goal.returns-else-count-eq0

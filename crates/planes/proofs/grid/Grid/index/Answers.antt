@@ -1,5 +1,5 @@
 -- The index of a place is in the buffer.
-use Rattle.std.proofs.Common.{length, rules}
+use Rattle.std.proofs.Common.{length}
 use Rattle.planes.proofs.Rowwise.{place_is}
 use Rattle.planes.proofs.grid.Grid.index.Goals as goal
 

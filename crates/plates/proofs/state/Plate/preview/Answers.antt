@@ -17,9 +17,9 @@ returns g c =
       declines_by_its_own_table = sym o;
       declined_leaves_the_scratch = λ e. absurd (false≢true (sym e));
       declined_leaves_the_output = λ e. absurd (false≢true (sym e));
-      leaves_the_rest_of_the_output = rest_stays v a c.level_of.result.number c.in_ok-plan.level.number (length c.args.scratch.now) c.args.output.now c.preview.new.output _ c.preview.result c.preview.ensures.previews_or_changes_nothing;
+      leaves_the_rest_of_the_output = rest_stays v a c.in_ok-plan.plan.levels c.in_ok-plan.level.number (length c.args.scratch.now) c.args.output.now c.preview.new.output _ c.preview.result c.preview.ensures.previews_or_changes_nothing;
       follows_the_plain_plate = λ s p h. accepted s p call v done (sym (own_table s p v h call) ∙ o) h refl;
       shows_the_resolution = λ s p h e.
           draws s p v c.in_ok-plan.plan c.args.card.now a (length c.args.scratch.now) c.args.output.now c.preview.new.output h c.in_ok-plan.ensures.answers_the_plan_and_the_level.0 c.args.self.now.lawful o
-          c.level_of.result.number c.in_ok-plan.level.number c.level_of.ensures.is_the_level (λ _. c.in_ok-plan.ensures.answers_the_plan_and_the_level.1) _ c.preview.result c.preview.ensures.previews_or_changes_nothing;
+          c.in_ok-plan.plan.levels c.in_ok-plan.level.number (λ _. refl) (λ _. c.in_ok-plan.ensures.answers_the_plan_and_the_level.1) _ c.preview.result c.preview.ensures.previews_or_changes_nothing;
     }

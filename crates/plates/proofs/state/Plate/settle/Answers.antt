@@ -22,7 +22,7 @@ returns g c =
       keeps_the_kernel = refl;
       follows_the_plain_plate = λ s p h.
           let r = settles s p v c.in-Ok.leased.0 c.in-Ok.leased.1 c.args.lease.plate c.args.lease.serial c.args.samples.now (length c.args.scratch.now) h
-          c.in-Ok.ensures.answers_the_plan_and_the_rectangle.0 c.in-Ok.ensures.answers_the_plan_and_the_rectangle.1 c.args.self.now.lawful o c.level_of.result.number c.level_of.ensures.is_the_level
+          c.in-Ok.ensures.answers_the_plan_and_the_rectangle.0 c.in-Ok.ensures.answers_the_plan_and_the_rectangle.1 c.args.self.now.lawful o c.in-Ok.leased.0.levels (λ _. refl)
           (g.S.Plane.picture c.settle-count.new.store) (g.S.Store.bits c.settle-count.new.store) _ c.settle-count.result c.settle-count.ensures.settles_or_changes_nothing in
           (r.0, ap settled (search rules) ∙ r.1);
     }
