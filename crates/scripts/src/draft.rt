@@ -18,10 +18,7 @@ use std::alloc::Global;
 pub(crate) fn trouble_at(line: usize, flaw: Flaw) -> Trouble
     ensures has_the_lines_number { result ≡ trouble_at line flaw }
 {
-    match flaw {
-        Flaw::Error(mistake) => Trouble::Error(Wrong { line, mistake }),
-        Flaw::Memory => Trouble::Memory,
-    }
+    flaw.map(|mistake| Wrong { line, mistake })
 }
 
 impl Draft {
