@@ -1,9 +1,10 @@
 // The words and the numbers after a command's name.
-ghost use Rattle.std.specs.Prelude.{◌≡◌, vec_items};
+ghost use Rattle.std.specs.Prelude.{◌≡◌, Err, MatchResult, Option, vec_items};
+ghost use Rattle.std.specs.Fn.{FnReturnsAt};
 ghost use Rattle.std.specs.Option.{ok_or};
 ghost use Rattle.script_words.specs.Words.{words};
 ghost use Rattle.script_arguments.specs.declared.mistake.Mistake.TheVariants as mistake;
-ghost use Rattle.script_arguments.specs.Arguments.{first_word, first_number, first_kernel, no_more, numbers, samples};
+ghost use Rattle.script_arguments.specs.Arguments.{with, beside, first_word, first_number, first_kernel, no_more, numbers, samples};
 ghost use Rattle.script_arguments.specs.Readings.{Reads, Takes};
 
 use crate::flaw::Flaw;
@@ -21,22 +22,32 @@ pub fn first_word(line: &[u8]) -> Result<(&[u8], &[u8]), Mistake>
     next_word(line).ok_or(Mistake::MissingWord)
 }
 
+// The first word as what a reading makes of it, and the line after it.
+fn first_as<T, F: Fn(&[u8]) -> Option<T>>(
+    line: &[u8],
+    read: F,
+    mistake: Mistake,
+) -> Result<(T, &[u8]), Mistake>
+    requires { F.IsAlwaysCallable read }
+    ensures is_what_is_read_or_misses_it { MatchResult (first_word (words line.now)) (λ p. (o : Option T) × FnReturnsAt F.Fn read p.0 o × Takes (λ x. x) result (with (beside p.1) (ok_or o mistake))) (λ m. result ≡ Err m) }
+{
+    let (word, rest) = first_word(line)?;
+    let value = read(word).ok_or(mistake)?;
+    Ok((value, rest))
+}
+
 // The first word as a number, and the line after it.
 pub fn first_number(line: &[u8]) -> Result<(u32, &[u8]), Mistake>
     ensures is_the_first_number_or_misses_it { Takes (λ n. n) result (first_number (words line.now)) }
 {
-    let (word, rest) = first_word(line)?;
-    let number = number_of(word).ok_or(Mistake::NotANumber)?;
-    Ok((number, rest))
+    first_as(line, number_of, Mistake::NotANumber)
 }
 
 // The first word as a kernel, and the line after it.
 pub fn first_kernel(line: &[u8]) -> Result<(KernelChoice, &[u8]), Mistake>
     ensures is_the_first_kernel_or_misses_it { Takes (λ k. k) result (first_kernel (words line.now)) }
 {
-    let (word, rest) = first_word(line)?;
-    let kernel = kernel_of(word).ok_or(Mistake::NoSuchKernel)?;
-    Ok((kernel, rest))
+    first_as(line, kernel_of, Mistake::NoSuchKernel)
 }
 
 // That no word is left.

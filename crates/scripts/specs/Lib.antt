@@ -1,4 +1,5 @@
 pub mod Commands
 pub mod Scripts
+pub mod Pending
 pub mod Meanings
 pub mod Words

@@ -1,16 +1,15 @@
 -- The values of the code as scripts, and what the reading of a script promises.
 pub use Rattle.script_commands.specs.Meanings.{meaning, start_meaning, finish_meaning, command_meaning}
-use Rattle.std.specs.Prelude.{◌≡◌, ℕ, List, map, Ok, Err, vec_items, Result}
+pub use Rattle.scripts.specs.Pending.{AllPending}
+use Rattle.std.specs.Prelude.{◌≡◌, ℕ, map, Ok, Err, vec_items, Result}
 use Rattle.std.specs.Option.{option_map}
-use Rattle.std.specs.List.{AllByRecursion}
-use Rattle.std.specs.declared.option.Option.TheVariants as option
 use Rattle.plates.specs.declared.calls.Turn.{Turn}
 use Rattle.script_arguments.specs.declared.flaw.OrMemory.{OrMemory}
 use Rattle.script_arguments.specs.declared.flaw.OrMemory.TheVariants as flaw
 use Rattle.script_arguments.specs.declared.mistake.Mistake.{Mistake}
 use Rattle.scripts.specs.declared.script.Script.{Script}
 use Rattle.scripts.specs.declared.script.Wrong.{Wrong}
-use Rattle.scripts.specs.declared.draft.Draft as drafts
+use Rattle.scripts.specs.declared.state.Draft as drafts
 use Rattle.scripts.specs.Commands.{Request, Commands}
 use Rattle.scripts.specs.Scripts.{Draft}
 
@@ -30,10 +29,6 @@ draft_meaning d = record {
   requests_so_far = map turn_meaning (vec_items d.turns);
   finishes_so_far = map finish_meaning (vec_items d.endings);
 }
-
--- every answer is still to come
-abbrev pub AllPending : List Turn → Type 0
-AllPending ts = AllByRecursion (λ t. t.answer ≡ option.None) ts
 
 -- What the reading of a script promises: the commands of the text, or its first line in error; of want of memory nothing is said.
 abbrev pub ScriptRead : Result Script (OrMemory Wrong) → Result Commands Wrong → Type 0

@@ -4,3 +4,4 @@
 mod draft;
 pub mod script;
 mod show;
+mod state;

@@ -2,7 +2,8 @@
 ghost use Rattle.scripts.specs.Meanings.{ScriptRead};
 ghost use Rattle.scripts.specs.Scripts.{script_of};
 
-use crate::draft::{Draft, trouble_at};
+use crate::draft::trouble_at;
+use crate::state::Draft;
 use plates::calls::Turn;
 use script_arguments::flaw::OrMemory;
 pub use script_arguments::mistake::Mistake;
