@@ -3,6 +3,8 @@ ghost use Rattle.std.specs.Prelude.{◌≡◌, ℕ, ◌<◌, ◌≤◌, [], ◌�
 ghost use Rattle.pgm.specs.Grammar.{HeaderText, Unfitting};
 ghost use Rattle.pgm.specs.Machine.{class, next, Decimal, Counted, scan};
 
+use crate::read::Picture;
+
 // What a byte is to the header's reader.
 #[derive(Clone, Copy)]
 enum Class {
@@ -103,19 +105,17 @@ impl Reader<'_> {
     }
 }
 
-// The numbers of a header, and how many bytes it takes.
+// The picture that a header tells of, and how many bytes it takes.
 #[derive(Clone, Copy)]
 pub(crate) struct Header {
-    pub columns: u32,
-    pub rows: u32,
-    pub top: u32,
+    pub picture: Picture,
     pub length: usize,
 }
 
 // The header that the file begins with, or the place of the first byte that does not fit one.
 pub(crate) fn read_header(bytes: &[u8]) -> Result<Header, usize>
     ensures is_the_header_or_where_it_ends { MatchResult result
-        (λ h. (h.length ≤ length bytes.now) × HeaderText (h.columns ∷ h.rows ∷ h.top ∷ []) (take h.length bytes.now))
+        (λ h. (h.length ≤ length bytes.now) × HeaderText (h.picture.columns ∷ h.picture.rows ∷ h.picture.top ∷ []) (take h.length bytes.now))
         (λ i. Unfitting bytes.now i) }
 {
     let mut reader = Reader { bytes, at: 0 };
@@ -131,9 +131,7 @@ pub(crate) fn read_header(bytes: &[u8]) -> Result<Header, usize>
     let at = reader.at;
     match class_of(bytes[at]) {
         Class::Blank | Class::Newline => Ok(Header {
-            columns,
-            rows,
-            top,
+            picture: Picture { columns, rows, top },
             length: at + 1,
         }),
         _ => Err(at),

@@ -31,16 +31,12 @@ impl Header {
     // The raster of a picture that a buffer of `room` samples has room for.
     fn raster(self, bytes: &[u8], room: usize) -> Result<Raster<'_>, Fault>
         requires { self.length ≤ length bytes.now }
-        ensures names_the_first_check_that_fails { result_err result ≡ first_fault (size_checks self.columns self.rows self.top self.length (length bytes.now) room) }
-        ensures has_the_samples { IfOk result (λ raster. (raster.bytes.now ≡ bytes.now) × (raster.from ≡ self.length) × (raster.top ≡ self.top)
-            × (raster.count ≡ self.rows * self.columns) × (raster.count ≤ room)) }
+        ensures names_the_first_check_that_fails { result_err result ≡ first_fault (size_checks self.picture.columns self.picture.rows self.picture.top self.length (length bytes.now) room) }
+        ensures has_the_samples { IfOk result (λ raster. (raster.bytes.now ≡ bytes.now) × (raster.from ≡ self.length) × (raster.top ≡ self.picture.top)
+            × (raster.count ≡ self.picture.rows * self.picture.columns) × (raster.count ≤ room)) }
     {
-        let Header {
-            columns,
-            rows,
-            top,
-            length,
-        } = self;
+        let Header { picture, length } = self;
+        let Picture { columns, rows, top } = picture;
         if columns < 1 || columns > 4096 || rows < 1 || rows > 4096 {
             return Err(Fault::Size(Layer::Pgm));
         }
@@ -71,13 +67,7 @@ pub fn read_pgm(bytes: &[u8], samples: &mut [u16]) -> Result<Picture, Fault>
     let raster = header.raster(bytes, samples.len())?;
     raster.check()?;
     raster.copy(samples);
-    let Header {
-        columns,
-        rows,
-        top,
-        ..
-    } = header;
-    Ok(Picture { columns, rows, top })
+    Ok(header.picture)
 }
 
 // So that what a file is read as, and why it is declined, is settled by the file and the room alone.

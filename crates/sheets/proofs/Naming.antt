@@ -9,7 +9,7 @@ use Rattle.planes.specs.Planes.{Cells}
 use Rattle.sheets.specs.declared.runs.Part.{Part}
 use Rattle.sheets.specs.declared.runs.Part.TheVariants.{Out, Inner, Last}
 use Rattle.sheets.specs.declared.runs.Run.{Run}
-use Rattle.sheets.specs.Runs.{named, changed_in_row, changed_cells, cells_from, named_by, is_cut, part, still_begun, ended, begun_before, row_runs, runs}
+use Rattle.sheets.specs.Runs.{named, changed_in_row, changed_cells, cells_from, named_by, is_cut, part, still_begun, ended, begun_before, row_runs, runs_from, runs_left, runs}
 use Rattle.sheets.specs.Laws.{CutAsRuled, TheRunsNameTheChangedCells}
 use Rattle.sheets.proofs.Walking.{Way, out, inner, last, way, begun_small, begun_within, begun_none, begun_all}
 
@@ -105,6 +105,18 @@ module _ (b : Cells Bool) (R C r : ℕ) (lr : r < R) where
       let g = begun_before (b r) C c in
       All-append (CutAsRuled 16 b R C) (row_runs (b r) r C c) (option_to_list (ended (part g (b r) C c) r c g)) (row_cut c (omega arith))
       (ended_cut c g (part g (b r) C c) (way g (b r) C c) (omega arith) (begun_within (b r) C c) (begun_small (b r) C c))
+
+  from_cut : (c n : ℕ) → c + n ≤ C → AllByRecursion (CutAsRuled 16 b R C) (runs_from (b r) r C c n)
+  unfolding runs_from
+  from_cut c zero h = tt
+  from_cut c (suc n) h =
+      let g = begun_before (b r) C c in
+      All-append (CutAsRuled 16 b R C) (option_to_list (ended (part g (b r) C c) r c g)) (runs_from (b r) r C (c + 1) n)
+      (ended_cut c g (part g (b r) C c) (way g (b r) C c) (omega arith) (begun_within (b r) C c) (begun_small (b r) C c))
+      (from_cut (c + 1) n (omega arith))
+
+  pub left_cut : (c : ℕ) → c ≤ C → AllByRecursion (CutAsRuled 16 b R C) (runs_left b r C c)
+  left_cut c h = from_cut c (C - c) (omega arith)
 
 runs_cut : (b : Cells Bool) (R C r : ℕ) → r ≤ R → AllByRecursion (CutAsRuled 16 b R C) (runs b r C)
 unfolding runs

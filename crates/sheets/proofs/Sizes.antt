@@ -8,11 +8,11 @@ use Rattle.frames.specs.Frames.{frame_line}
 use Rattle.frames.proofs.Over.{length_line}
 use Rattle.sheets.specs.declared.frame.Head.{Head}
 use Rattle.sheets.specs.declared.runs.Run.{Run}
-use Rattle.sheets.specs.Runs.{Named, named, changed_in_row, changed_cells, cells_from, named_by, part, still_begun, ended, begun_before, row_runs, runs}
+use Rattle.sheets.specs.Runs.{Named, named, changed_in_row, changed_cells, cells_from, named_by, part, still_begun, ended, begun_before, row_runs, runs_left, runs}
 use Rattle.sheets.specs.Sheets.{head_frame, cell_bytes, run_head, run_frame, run_line, end_frame, run_lines, sheet_text}
 use Rattle.sheets.specs.Laws.{CutAsRuled, ASheetHas}
-use Rattle.sheets.proofs.Walking.{runs_more}
-use Rattle.sheets.proofs.Naming.{row_names, runs_name, row_cut, the_runs_name}
+use Rattle.sheets.proofs.Walking.{runs_more, with_the_left}
+use Rattle.sheets.proofs.Naming.{row_names, runs_name, left_cut, the_runs_name}
 
 pub length_cells : (x : Cells ℤ) (r c n : ℕ) → length (cells_from x r c n) ≡ n
 unfolding cells_from
@@ -116,22 +116,26 @@ module _ (x : Cells ℤ) (all : List Run) where
     );
   }
 
--- and those of a row are few
-module _ (x : Cells ℤ) (b : Cells Bool) (C r : ℕ) (done left : List Run) (runs cells : ℕ) (p : Counted x (row_runs (b r) r C C) done left runs cells) where
-  pub counted_few : (runs ≤ C) × (cells ≤ C)
-  counted_few =
-      let all = row_runs (b r) r C C in
-      let runs_few : length all ≤ length (flat_map (named_by x) all) = few_runs x b (suc r) C all (row_cut b (suc r) C r (omega arith) C (omega arith)) in
-      let cells_few : length (flat_map (named_by x) all) ≤ C = omega (arith, ap length (row_names x b C r), changed_at_most x b r C) in
+-- and those that are left of a row are few
+module _ (x : Cells ℤ) (b : Cells Bool) (C r c : ℕ) (done left : List Run) (runs cells : ℕ) (p : Counted x (runs_left b r C c) done left runs cells) where
+  pub counted_few : c ≤ C → (runs ≤ C) × (cells ≤ C)
+  counted_few h =
+      let all = runs_left b r C c in
+      let ended = row_runs (b r) r C c in
+      let runs_few : length all ≤ length (flat_map (named_by x) all) = few_runs x b (suc r) C all (left_cut b (suc r) C r (omega arith) c h) in
+      let row : length (flat_map (named_by x) ended) + length (flat_map (named_by x) all) ≡ length (changed_in_row x b r C) =
+      sym (ap length (flat_map-append (named_by x) ended all) ∙ length-append (flat_map (named_by x) ended) (flat_map (named_by x) all))
+      ∙ ap (λ z. length (flat_map (named_by x) z)) (with_the_left b r C c h) ∙ ap length (row_names x b C r) in
+      let cells_few : length (flat_map (named_by x) all) ≤ C = omega (arith, row, changed_at_most x b r C) in
       let runs_all : length all ≡ length done + length left = ap length (sym p.split) ∙ length-append done left in
       let cells_all : length (flat_map (named_by x) all) ≡ length (flat_map (named_by x) done) + length (flat_map (named_by x) left) =
       ap (λ z. length (flat_map (named_by x) z)) (sym p.split) ∙ ap length (flat_map-append (named_by x) done left) ∙ length-append (flat_map (named_by x) done) (flat_map (named_by x) left) in
       (omega (arith, p.runs_are), omega (arith, p.cells_are))
 
-  pub counted_all : left ≡ [] → (runs ≡ length (row_runs (b r) r C C)) × (cells ≡ length (changed_in_row x b r C))
+  pub counted_all : left ≡ [] → (runs ≡ length (runs_left b r C c)) × (cells ≡ length (flat_map (named_by x) (runs_left b r C c)))
   counted_all e =
-      let all : done ≡ row_runs (b r) r C C = all_done (row_runs (b r) r C C) done left p.split e in
-      (p.runs_are ∙ ap length all, p.cells_are ∙ ap (λ z. length (flat_map (named_by x) z)) all ∙ ap length (row_names x b C r))
+      let all : done ≡ runs_left b r C c = all_done (runs_left b r C c) done left p.split e in
+      (p.runs_are ∙ ap length all, p.cells_are ∙ ap (λ z. length (flat_map (named_by x) z)) all)
 
 -- So many rows are passed, none of more than 2^64 − 1 runs or cells.
 pub record PassedRows (x : Cells ℤ) (b : Cells Bool) (C r runs cells : ℕ) : Type 0 where

@@ -103,6 +103,10 @@ pub left_all : (b : Cells Bool) (r C : ℕ) → runs_left b r C 0 ≡ row_runs (
 unfolding row_runs
 left_all b r C = ap (runs_from (b r) r C 0) (omega arith) ∙ ahead (b r) r C 0 C ∙ ap (row_runs (b r) r C) (zero-add C)
 
+-- and those that ended before a column, with those that are left, are all runs of the row
+pub with_the_left : (b : Cells Bool) (r C c : ℕ) → c ≤ C → row_runs (b r) r C c ++ runs_left b r C c ≡ row_runs (b r) r C C
+with_the_left b r C c h = let e : c + (C - c) ≡ C = omega arith in ahead (b r) r C c (C - c) ∙ ap (row_runs (b r) r C) e
+
 -- one column more, from what a cell is to the runs
 module _ (b : Cells Bool) (r C c g : ℕ) (p : Part) (e : g ≡ begun_before (b r) C c) (f : p ≡ part g (b r) C c) where
   p_is : p ≡ part (begun_before (b r) C c) (b r) C c

@@ -7,7 +7,7 @@ use Rattle.planes.specs.declared.plane.Store as store
 use Rattle.planes.specs.Planes.{Cells}
 use Rattle.sheets.specs.declared.frame.Head.{Head}
 use Rattle.sheets.specs.declared.runs.Run.{Run}
-use Rattle.sheets.specs.Runs.{Named, named_by, changed_cells, row_runs, runs}
+use Rattle.sheets.specs.Runs.{Named, named_by, changed_cells, runs_left, runs}
 
 -- 01, issue, rows, columns, top, levels and the kernel's code
 abbrev pub head_frame : Head → List ℕ
@@ -47,12 +47,12 @@ run_lines x rs = flat_map (run_line x) rs
 unfoldable pub sheet_text : Head → ℕ → ℕ → Cells ℤ → Cells Bool → List ℕ
 sheet_text h R C x b = frame_line (head_frame h) ++ (run_lines x (runs b R C) ++ frame_line (end_frame (length (changed_cells x b R C))))
 
--- of what a store holds: its changed cells, the lines of the runs of a row of C columns and of all rows, and its sheet
+-- of what a store holds: its changed cells, the lines of the runs that are left from column c of a row of C and of all rows, and its sheet
 abbrev pub changed_of : {S : Type 0} → plane.Ghosts S → store.Ghosts S → S → List Named
 changed_of a b s = changed_cells (a.picture s).number (b.bits s) (a.picture s).height (a.picture s).width
 
-abbrev pub row_lines : {S : Type 0} → plane.Ghosts S → store.Ghosts S → S → ℕ → ℕ → List ℕ
-row_lines a b s r C = run_lines (a.picture s).number (row_runs (b.bits s r) r C C)
+abbrev pub lines_left : {S : Type 0} → plane.Ghosts S → store.Ghosts S → S → ℕ → ℕ → ℕ → List ℕ
+lines_left a b s r C c = run_lines (a.picture s).number (runs_left (b.bits s) r C c)
 
 abbrev pub all_lines : {S : Type 0} → plane.Ghosts S → store.Ghosts S → S → List ℕ
 all_lines a b s = run_lines (a.picture s).number (runs (b.bits s) (a.picture s).height (a.picture s).width)

@@ -1,6 +1,7 @@
 // How many runs and cells a sheet has.
 ghost use Rattle.std.specs.Prelude.{◌≡◌, ◌+◌, ◌*◌, ◌^◌, ◌<◌, length, nat_le};
-ghost use Rattle.sheets.specs.Runs.{changed_in_row, row_runs, runs as runs_of};
+ghost use Rattle.std.specs.List.{flat_map};
+ghost use Rattle.sheets.specs.Runs.{named_by, runs_left, runs as runs_of};
 ghost use Rattle.sheets.specs.Sheets.{changed_of};
 
 use crate::runs::{Run, Runs};
@@ -37,16 +38,16 @@ impl Counts {
     }
 }
 
-// The runs and the cells of one row.
-fn count_row<S: Store>(store: &S, row: usize) -> Counts
-    requires { row < (S.Plane.picture store.now).height }
-    ensures counts_the_runs { result.runs ≡ length (row_runs (S.Store.bits store.now row) row (S.Plane.picture store.now).width (S.Plane.picture store.now).width) }
-    ensures counts_the_cells { result.cells ≡ length (changed_in_row (S.Plane.picture store.now).number (S.Store.bits store.now) row (S.Plane.picture store.now).width) }
+// The runs that are left of a row, and their cells.
+fn count_row<S: Store>(runs: Runs<'_, S>) -> Counts
+    ensures counts_the_runs { result.runs ≡ length (runs_left (S.Store.bits runs.entry.store.now) runs.entry.row runs.entry.columns runs.entry.column) }
+    ensures counts_the_cells { result.cells ≡ length (flat_map (named_by (S.Plane.picture runs.entry.store.now).number)
+        (runs_left (S.Store.bits runs.entry.store.now) runs.entry.row runs.entry.columns runs.entry.column)) }
     ensures has_few_runs { result.runs < 2 ^ 64 }
     ensures has_few_cells { result.cells < 2 ^ 64 }
 {
     let mut counts = Counts::NONE;
-    for run in Runs::of(store, row) {
+    for run in runs {
         counts = counts.with(run);
     }
     counts
@@ -59,7 +60,7 @@ pub(crate) fn count_rows<S: Store>(store: &S) -> Counts
 {
     let mut counts = Counts::NONE;
     for row in 0..store.rows() {
-        let more = count_row(store, row);
+        let more = count_row(Runs::of(store, row));
         counts = Counts {
             runs: counts.runs + more.runs,
             cells: counts.cells + more.cells,

@@ -54,7 +54,7 @@ impl Part {
 // goes on, or none.
 #[derive(Drop)]
 pub(crate) struct Runs<'a, S: Store> {
-    store: &'a S,
+    pub(crate) store: &'a S,
     row: usize,
     columns: usize,
     column: usize,
@@ -71,7 +71,7 @@ impl<'a, S: Store> Runs<'a, S> {
         requires { row < (S.Plane.picture store.now).height }
         ensures are_the_rows_runs { runs_left (S.Store.bits result.store.now) result.row result.columns result.column
             ≡ row_runs (S.Store.bits store.now row) row (S.Plane.picture store.now).width (S.Plane.picture store.now).width }
-        ensures has_its_columns { (S.Plane.picture store.now).width < 2 ^ 64 }
+        ensures is_of_the_store { result.store.now ≡ store.now }
     {
         Runs {
             store,

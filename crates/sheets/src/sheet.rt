@@ -3,7 +3,7 @@ ghost use Rattle.std.specs.Prelude.{◌≡◌, ◌+◌, ◌*◌, ◌^◌, ◌<�
 ghost use Rattle.frames.specs.Frames.{over, frame_line};
 ghost use Rattle.sheets.specs.Runs.{Inside};
 ghost use Rattle.sheets.specs.declared.frame.Head.{Head};
-ghost use Rattle.sheets.specs.Sheets.{run_line, changed_of, row_lines, all_lines, sheet_of, HasRoom, Writes};
+ghost use Rattle.sheets.specs.Sheets.{run_line, changed_of, lines_left, all_lines, sheet_of, HasRoom, Writes};
 
 use crate::count::count_rows;
 use crate::frame::{Head, end_frame, fill_frame};
@@ -33,15 +33,15 @@ fn write_run<S: Store>(store: &S, run: Run, out: &mut [u8], at: usize) -> usize
     put_line(out, at, &frame[0..6 + 4 * run.count])
 }
 
-// Writes the lines of a row's runs, which are known to have room, and answers where they end.
-fn write_row<S: Store>(store: &S, row: usize, out: &mut [u8], start: usize) -> usize
-    requires a_row { row < (S.Plane.picture store.now).height }
-    requires room { start + length (row_lines S.Plane S.Store.own store.now row (S.Plane.picture store.now).width) ≤ length out.old }
-    ensures writes_the_rows_lines { out.new ≡ over out.old start (row_lines S.Plane S.Store.own store.now row (S.Plane.picture store.now).width) }
-    ensures answers_their_end { result ≡ start + length (row_lines S.Plane S.Store.own store.now row (S.Plane.picture store.now).width) }
+// Writes the lines of the runs that are left of a row, which are known to have room, and answers where they end.
+fn write_row<S: Store>(runs: Runs<'_, S>, out: &mut [u8], start: usize) -> usize
+    requires room { start + length (lines_left S.Plane S.Store.own runs.store.now runs.row runs.columns runs.column) ≤ length out.old }
+    ensures writes_their_lines { out.new ≡ over out.old start (lines_left S.Plane S.Store.own runs.entry.store.now runs.entry.row runs.entry.columns runs.entry.column) }
+    ensures answers_their_end { result ≡ start + length (lines_left S.Plane S.Store.own runs.entry.store.now runs.entry.row runs.entry.columns runs.entry.column) }
 {
+    let store = runs.store;
     let mut at = start;
-    for run in Runs::of(store, row) {
+    for run in runs {
         at = write_run(store, run, out, at);
     }
     at
@@ -55,7 +55,7 @@ fn write_rows<S: Store>(store: &S, out: &mut [u8], start: usize) -> usize
 {
     let mut at = start;
     for row in 0..store.rows() {
-        at = write_row(store, row, out, at);
+        at = write_row(Runs::of(store, row), out, at);
     }
     at
 }

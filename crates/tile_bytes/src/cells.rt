@@ -11,7 +11,7 @@ use crate::sides::{Sides, TilePlace};
 fn slot_start(bytes: &[u8], sides: Sides, tile: u32) -> usize
     ensures is_the_start_of_the_slot { result ≡ slot_start (tile_count sides.rows sides.columns) (slot_of bytes.now tile) }
 {
-    4 + 2 * sides.tiles() as usize + 1056 * slot_of(bytes, tile) as usize
+    sides.slot_start(slot_of(bytes, tile) as u32)
 }
 
 pub fn number_of(bytes: &[u8], sides: Sides, place: TilePlace) -> i32

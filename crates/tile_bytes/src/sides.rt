@@ -1,6 +1,6 @@
 // The sides of a plate in tiles of 16 × 16 places.
 ghost use Rattle.std.specs.Prelude.{◌≡◌, ◌+◌, ◌*◌, ◌/◌, ◌<◌, ◌≤◌, MatchOption};
-ghost use Rattle.tile_bytes.specs.Layout.{tiles_along, tile_count, slots_end, tile_of, cell_of};
+ghost use Rattle.tile_bytes.specs.Layout.{tiles_along, tile_count, slot_start, slots_end, tile_of, cell_of};
 
 // Rows and columns, as the first four bytes of a file hold them.
 #[derive(Clone, Copy, PartialEq, Eq, Debug)]
@@ -46,12 +46,18 @@ impl Sides {
         tiles_along(self.rows) * tiles_along(self.columns)
     }
 
+    // Where a slot starts: behind the head and the slots before it.
+    pub(crate) fn slot_start(self, slot: u32) -> usize
+        ensures is_where_the_slot_starts { result ≡ slot_start (tile_count self.rows self.columns) slot }
+    {
+        4 + 2 * self.tiles() as usize + 1056 * slot as usize
+    }
+
     // The length of a file: the head and all slots.
     pub fn file_length(self) -> usize
         ensures is_where_the_last_slot_ends { result ≡ slots_end (tile_count self.rows self.columns) }
     {
-        let tiles = self.tiles() as usize;
-        4 + 2 * tiles + 1056 * tiles
+        self.slot_start(self.tiles())
     }
 
     // The tile and the cell of a place, if the place is inside.

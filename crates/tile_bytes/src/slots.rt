@@ -1,6 +1,6 @@
 // All slots of a file at once.
-ghost use Rattle.std.specs.Prelude.{◌+◌, ◌*◌};
-ghost use Rattle.tile_bytes.specs.Layout.{tile_count};
+ghost use Rattle.std.specs.Prelude.{◌+◌};
+ghost use Rattle.tile_bytes.specs.Layout.{tile_count, slot_start};
 ghost use Rattle.tile_bytes.specs.Slots.{Zeroed, between, in_slots, holds_bits};
 
 use crate::sides::Sides;
@@ -19,15 +19,16 @@ fn zero(bytes: &mut [u8], first: usize, last: usize)
 pub fn zero_slots(bytes: &mut [u8], sides: Sides)
     ensures zeroes_every_slot { Zeroed (in_slots (tile_count sides.rows sides.columns) (tile_count sides.rows sides.columns)) bytes.old bytes.new }
 {
-    let tiles = sides.tiles() as usize;
-    zero(bytes, 4 + 2 * tiles, 4 + 2 * tiles + 1056 * tiles);
+    zero(bytes, sides.slot_start(0), sides.file_length());
 }
 
 // Sets the bytes of change bits of one slot to 0.
-fn clear_slot(bytes: &mut [u8], tiles: u32, slot: u32)
-    ensures zeroes_the_slots_bits { Zeroed (between (4 + 2 * tiles + 1056 * slot + 1024) (4 + 2 * tiles + 1056 * slot + 1056)) bytes.old bytes.new }
+fn clear_slot(bytes: &mut [u8], sides: Sides, slot: u32)
+    ensures zeroes_the_slots_bits { Zeroed
+        (between (slot_start (tile_count sides.rows sides.columns) slot + 1024) (slot_start (tile_count sides.rows sides.columns) slot + 1056))
+        bytes.old bytes.new }
 {
-    let start = 4 + 2 * tiles as usize + 1056 * slot as usize;
+    let start = sides.slot_start(slot);
     zero(bytes, start + 1024, start + 1056);
 }
 
@@ -35,8 +36,7 @@ fn clear_slot(bytes: &mut [u8], tiles: u32, slot: u32)
 pub fn clear_bits(bytes: &mut [u8], sides: Sides)
     ensures zeroes_the_bits_of_every_slot { Zeroed (holds_bits (tile_count sides.rows sides.columns) (tile_count sides.rows sides.columns)) bytes.old bytes.new }
 {
-    let tiles = sides.tiles();
-    for slot in 0..tiles {
-        clear_slot(bytes, tiles, slot);
+    for slot in 0..sides.tiles() {
+        clear_slot(bytes, sides, slot);
     }
 }

@@ -1,7 +1,9 @@
 // An open tile file: a plane over bytes that are owned or borrowed, and a store where they are owned.
-ghost use Rattle.std.specs.Prelude.{◌≡◌, true, false, ⊤};
+ghost use Rattle.std.specs.Prelude.{◌≡◌, ◌<◌, true, false, ⊤, MatchResult};
 ghost use Rattle.tiles.specs.Opening.{height, width};
 ghost use Rattle.tiles.specs.Files.{file_picture, file_bits, FileFrame, file_still, file_onward, PutsFile, ClearsFile};
+ghost use Rattle.faults.specs.declared.fault.Fault.TheVariants.{Outside};
+ghost use Rattle.tile_bytes.specs.Layout.{tile_of, cell_of};
 ghost use Rattle.planes.specs.Planes.{PutsNumber, PutsBit, unmarked};
 
 use crate::opening::opened_sides;
@@ -10,7 +12,7 @@ use planes::plane::{Plane, Store};
 use std::alloc::AllocError;
 use std::convert::AsSlice;
 use tile_bytes::cells::{bit_of, number_of, put_cell};
-use tile_bytes::sides::Sides;
+use tile_bytes::sides::{Sides, TilePlace};
 use tile_bytes::slots::clear_bits;
 
 // The bytes of a file and the sides that they have.
@@ -38,6 +40,16 @@ impl<B: AsSlice<u8> + Copy> Clone for Opened<B> {
 }
 
 impl<B: AsSlice<u8>> Opened<B> {
+    // The tile and the cell of a place of the plate.
+    fn place(&self, row: usize, column: usize) -> Result<TilePlace, Fault>
+        ensures is_the_tile_and_the_cell_or_the_fault { MatchResult result
+            (λ p. (row < self.now.sides.rows) × (column < self.now.sides.columns)
+            × (p.tile ≡ tile_of self.now.sides.columns row column) × (p.cell ≡ cell_of row column))
+            (λ e. ((row < self.now.sides.rows) × (column < self.now.sides.columns) → ⊥) × (e ≡ Outside)) }
+    {
+        self.sides.place(row, column).ok_or(Fault::Outside)
+    }
+
     // The file, with no rows and no columns where there is a fault; every byte stays as it is.
     pub fn open(bytes: B) -> Opened<B>
         ensures has_the_rows_or_none { result.sides.rows ≡ height (B.items bytes) }
@@ -72,7 +84,7 @@ impl<B: AsSlice<u8>> Plane for Opened<B> {
     }
 
     fn read(&self, row: usize, column: usize) -> Result<i32, Fault> {
-        let place = self.sides.place(row, column).ok_or(Fault::Outside)?;
+        let place = self.place(row, column)?;
         Ok(number_of(self.bytes.as_slice(), self.sides, place))
     }
 }
@@ -94,13 +106,13 @@ impl Store for Opened<Vec<u8>> {
         ensures writes_one_cell { PutsFile self.old.bytes.items row column number self.new.bytes.items result }
     {
         let sides = self.sides;
-        let place = sides.place(row, column).ok_or(Fault::Outside)?;
+        let place = self.place(row, column)?;
         put_cell(&mut self.bytes, sides, place, number);
         Ok(())
     }
 
     fn bit(&self, row: usize, column: usize) -> Result<bool, Fault> {
-        let place = self.sides.place(row, column).ok_or(Fault::Outside)?;
+        let place = self.place(row, column)?;
         Ok(bit_of(&self.bytes, self.sides, place))
     }
 

@@ -1,5 +1,5 @@
 // Whether a tile file can be opened, and with which sides.
-ghost use Rattle.std.specs.Prelude.{◌≡◌, false, ◌||◌, nat_le, slice_index_or, MatchResult};
+ghost use Rattle.std.specs.Prelude.{◌≡◌, ◌<◌, false, ◌||◌, nat_le, slice_index_or, MatchOption, MatchResult};
 ghost use Rattle.planes.specs.Flat.{bad_side};
 ghost use Rattle.tiles.specs.Opening.{rows_said, columns_said, first_bad_slot, tile_fault, height, width, AnOpenedFileIsSound};
 
@@ -26,19 +26,21 @@ fn is_bad_slot(slot: u16, tiles: u32, seen: &[bool; 65536]) -> bool
     slot as u32 >= tiles || seen[slot as usize]
 }
 
-// The index of the first slot number that is too large or repeats an earlier one, or the number of tiles.
-fn first_bad_slot(bytes: &[u8], tiles: u32) -> u32
-    ensures is_the_first_bad_one { result ≡ first_bad_slot tiles bytes.now }
+// The index of the first slot number that is too large or repeats an earlier one, if one does.
+fn first_bad_slot(bytes: &[u8], tiles: u32) -> Option<u32>
+    ensures is_the_first_bad_one { MatchOption result
+        (first_bad_slot tiles bytes.now ≡ tiles)
+        (λ i. (first_bad_slot tiles bytes.now ≡ i) × (i < tiles)) }
 {
     let mut seen = [false; 65536];
     for index in 0..tiles {
         let slot = slot_of(bytes, index);
         if is_bad_slot(slot, tiles, &seen) {
-            return index;
+            return Some(index);
         }
         seen[slot as usize] = true;
     }
-    tiles
+    None
 }
 
 // The sides of a file, or the fault that opening it meets: under four bytes, a side that is 0 or over 4,096, too few bytes for the slots, a bad
@@ -58,11 +60,10 @@ fn judge(bytes: &[u8]) -> Result<Sides, Fault>
     if bytes.len() < sides.file_length() {
         return Err(Fault::StoreShort);
     }
-    let index = first_bad_slot(bytes, sides.tiles());
-    if index < sides.tiles() {
-        return Err(Fault::Slot(index as usize));
+    match first_bad_slot(bytes, sides.tiles()) {
+        Some(index) => Err(Fault::Slot(index as usize)),
+        None => Ok(sides),
     }
-    Ok(sides)
 }
 
 // The fault that opening a file would meet. A question: its answer is the fault, and it cannot fail.

@@ -33,14 +33,16 @@ loop-index-preserved c =
 
 pub returns-then-is_bad_slot : goal.returns-then-is_bad_slot
 returns-then-is_bad_slot c = record {
-  is_the_first_bad_one =
-      found (bad_slot c.args.tiles c.args.bytes.now) c.loop-index.index c.args.tiles c.loop-index-test.true c.loop-index.invariant.1
-      (sym (told (goal.at.returns-then-is_bad_slot c).After-is_bad_slot) ∙ c.if-is_bad_slot.true);
+  is_the_first_bad_one = (
+    sym (found (bad_slot c.args.tiles c.args.bytes.now) c.loop-index.index c.args.tiles c.loop-index-test.true c.loop-index.invariant.1
+        (sym (told (goal.at.returns-then-is_bad_slot c).After-is_bad_slot) ∙ c.if-is_bad_slot.true)),
+    c.loop-index-test.true,
+  );
 }
 
 pub returns : goal.returns
 returns c = record {
   is_the_first_bad_one =
       let e : c.loop-index.index ≡ c.args.tiles = omega arith in
-      subst (λ (n : ℕ). n ≡ first_index (bad_slot c.args.tiles c.args.bytes.now) n) e c.loop-index.invariant.1;
+      sym (subst (λ (n : ℕ). n ≡ first_index (bad_slot c.args.tiles c.args.bytes.now) n) e c.loop-index.invariant.1);
 }
