@@ -54,11 +54,11 @@ PATTERNS = {
     "6": [
         r"\bat: usize",
         r"\[0u?[0-9]*; [A-Z0-9]+\]",
-        r"= \[(BLANK|false|0u8|0u16); [A-Z0-9]+\]",
+        r"= \[(BLANK|Cell::BLANK|false|0u8|0u16); [A-Z0-9]+\]",
     ],
     # A choice among steps.
     "7": [
-        r"^ *match (self|name|kernel|way) \{",
+        r"\bmatch (self|name|kernel|way) \{",
     ],
 }
 
@@ -72,15 +72,22 @@ def by_pattern(point, commit):
 
 
 def functions(text):
-    # Name, signature with contract, and body of each function.
-    for match in re.finditer(r"^( *)(?:pub(?:\([a-z]+\))? )?(?:extern \"C\" )?fn ([a-z_0-9]+)", text, re.M):
+    # Name, signature with contract, and body of each function that has one.
+    lines = text.split("\n")
+    for at, line in enumerate(lines):
+        match = re.match(r"^( *)(?:pub(?:\([a-z]+\))? )?(?:extern \"C\" )?fn ([a-z_0-9]+)", line)
+        if not match:
+            continue
         indent = match.group(1)
-        end = re.search(rf"^{indent}(\}}|.*;)$", text[match.end():], re.M)
-        whole = text[match.start():match.end() + end.end()] if end else text[match.start():]
-        head, _, body = whole.partition(f"\n{indent}{{\n")
-        if not body:
-            head, _, body = whole.partition(" {\n")
-        yield match.group(2), head, body
+        head = at
+        while not lines[head].endswith("{") and not lines[head].endswith("{}") and not lines[head].endswith(";"):
+            head += 1
+        if not lines[head].endswith("{"):
+            continue
+        end = head
+        while lines[end] != indent + "}":
+            end += 1
+        yield match.group(2), "\n".join(lines[at:head + 1]), "\n".join(lines[head + 1:end])
 
 
 # Twins: functions of four lines or more whose bodies are alike but for names, numbers and strings.
