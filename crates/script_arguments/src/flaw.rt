@@ -12,20 +12,6 @@ pub enum OrMemory<E> {
     Memory,
 }
 
-impl<E> OrMemory<E> {
-    // Another error in the place of this one; want of memory stays.
-    pub fn map<D, F: FnOnce(E) -> D>(self, f: F) -> OrMemory<D>
-        requires { (e : E) → self ≡ flaw.Error e → F.pre f e }
-        ensures has_the_other_error { (e : E) → self ≡ flaw.Error e → (d : D) × F.post f e d × (result ≡ flaw.Error d) }
-        ensures memory_stays { self ≡ flaw.Memory → result ≡ flaw.Memory }
-    {
-        match self {
-            OrMemory::Error(error) => OrMemory::Error(f(error)),
-            OrMemory::Memory => OrMemory::Memory,
-        }
-    }
-}
-
 // A mistake of the line, or want of memory.
 pub type Flaw = OrMemory<Mistake>;
 

@@ -18,7 +18,10 @@ use std::alloc::Global;
 pub(crate) fn trouble_at(line: usize, flaw: Flaw) -> Trouble
     ensures has_the_lines_number { result ≡ trouble_at line flaw }
 {
-    flaw.map(|mistake| Wrong { line, mistake })
+    match flaw {
+        Flaw::Error(mistake) => Trouble::Error(Wrong { line, mistake }),
+        Flaw::Memory => Trouble::Memory,
+    }
 }
 
 impl Draft {
