@@ -92,19 +92,14 @@ fn check_cone(rt: &impl Abort, rows: Edit, columns: Edit) -> Result<(), Fail> {
         height: usize::from(rows.last) + 1 - usize::from(rows.first.min(rows.last)),
         width: usize::from(columns.last) + 1 - usize::from(columns.first.min(columns.last)),
     };
-    let Some(levels) = Level::new(usize::from(rows.levels)) else {
-        assert!(rt; false, "no such level");
-        return Ok(());
-    };
-    let Some(cone) = Cone::of_rectangle(
+    let levels = Level::new(usize::from(rows.levels)).ok_or("no such level")?;
+    let cone = Cone::of_rectangle(
         usize::from(rows.side),
         usize::from(columns.side),
         rectangle,
         levels,
-    ) else {
-        assert!(rt; false, "no cone");
-        return Ok(());
-    };
+    )
+    .ok_or("no cone")?;
     for row in 0..rows.side {
         check_row(rt, &cone, rows, columns, row);
     }

@@ -30,10 +30,7 @@ const COUNTS: [(usize, usize, usize, usize, usize, u128); 8] = [
 #[test]
 fn cones_have_as_many_cells_as_counted(rt: HostRuntime) -> Result<(), Fail> {
     for (height, width, levels, row, column, count) in COUNTS {
-        let Some(cone) = cone_of(height, width, levels, row, column) else {
-            assert!(rt; false, "no cone");
-            return Ok(());
-        };
+        let cone = cone_of(height, width, levels, row, column).ok_or("no cone")?;
         assert_eq!(rt; cone.count(), count);
     }
     Ok(())
@@ -44,10 +41,7 @@ const CELLS: [bool; 4] = [true, false, true, true];
 
 #[test]
 fn an_edit_of_the_last_of_four_reaches_three_cells(rt: HostRuntime) -> Result<(), Fail> {
-    let Some(cone) = cone_of(1, 4, 2, 0, 3) else {
-        assert!(rt; false, "no cone");
-        return Ok(());
-    };
+    let cone = cone_of(1, 4, 2, 0, 3).ok_or("no cone")?;
     for (column, is_in) in CELLS.iter().enumerate() {
         assert_eq!(rt; cone.contains(0, column), *is_in);
     }
@@ -68,10 +62,7 @@ const DECLINED: [(usize, usize, usize, usize, usize, usize); 5] = [
 #[test]
 fn rectangles_that_are_empty_or_leave_have_no_cone(rt: HostRuntime) -> Result<(), Fail> {
     for (height, width, first_row, first_column, rows, columns) in DECLINED {
-        let Some(levels) = Level::new(1) else {
-            assert!(rt; false, "no such level");
-            return Ok(());
-        };
+        let levels = Level::new(1).ok_or("no such level")?;
         let rectangle = Rectangle {
             first_row,
             first_column,

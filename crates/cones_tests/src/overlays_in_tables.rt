@@ -100,14 +100,8 @@ fn the_cells_of_a_cone_are_put_and_no_others(rt: HostRuntime) -> Result<(), Fail
         height: 1,
         width: 1,
     };
-    let Some(levels) = Level::new(0) else {
-        assert!(rt; false, "no such level");
-        return Ok(());
-    };
-    let Some(cone) = Cone::of_rectangle(2, 3, rectangle, levels) else {
-        assert!(rt; false, "no cone");
-        return Ok(());
-    };
+    let levels = Level::new(0).ok_or("no such level")?;
+    let cone = Cone::of_rectangle(2, 3, rectangle, levels).ok_or("no cone")?;
     let mut other = [
         Cell::changed(1),
         Cell::changed(2),

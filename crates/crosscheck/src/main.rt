@@ -7,81 +7,73 @@ mod noise;
 mod plain;
 mod rule;
 
-use compare::{Shape, Tally, compare_plate};
+use compare::{Check, Shape, Tally};
 use kernels::choice::KernelChoice;
 use noise::Noise;
 use planes::level::Level;
-use std::alloc::{AllocError, Global};
+use std::alloc::AllocError;
 
-// Every number of levels, with both kernels.
-fn compare_levels(
-    heap: Global,
-    tally: &mut Tally,
-    noise: &mut Noise,
-    height: usize,
-    width: usize,
-) -> Result<(), AllocError> {
-    for number in 0..6 {
-        let level = Level { number };
-        for kernel in [KernelChoice::FiveThree, KernelChoice::STransform] {
-            let shape = Shape {
-                height,
-                width,
-                level,
-                kernel,
-            };
-            compare_plate(heap, tally, noise, shape)?;
+impl Check {
+    // Every number of levels, with both kernels.
+    fn compare_levels(&mut self, height: usize, width: usize) -> Result<(), AllocError> {
+        for number in 0..6 {
+            let level = Level { number };
+            for kernel in [KernelChoice::FiveThree, KernelChoice::STransform] {
+                self.compare_plate(Shape {
+                    height,
+                    width,
+                    level,
+                    kernel,
+                })?;
+            }
         }
+        Ok(())
     }
-    Ok(())
-}
 
-// Every width up to 9 at one height.
-fn compare_widths(
-    heap: Global,
-    tally: &mut Tally,
-    noise: &mut Noise,
-    height: usize,
-) -> Result<(), AllocError> {
-    for width in 1..10 {
-        compare_levels(heap, tally, noise, height, width)?;
+    // Every width up to 9 at one height.
+    fn compare_widths(&mut self, height: usize) -> Result<(), AllocError> {
+        for width in 1..10 {
+            self.compare_levels(height, width)?;
+        }
+        Ok(())
     }
-    Ok(())
-}
 
-// Every size up to 9 by 9.
-fn compare_small(heap: Global, tally: &mut Tally, noise: &mut Noise) -> Result<(), AllocError> {
-    for height in 1..10 {
-        compare_widths(heap, tally, noise, height)?;
+    // Every size up to 9 by 9.
+    fn compare_small(&mut self) -> Result<(), AllocError> {
+        for height in 1..10 {
+            self.compare_widths(height)?;
+        }
+        Ok(())
     }
-    Ok(())
-}
 
-// Some larger sizes.
-fn compare_large(heap: Global, tally: &mut Tally, noise: &mut Noise) -> Result<(), AllocError> {
-    for (height, width) in [
-        (1, 100),
-        (100, 1),
-        (17, 33),
-        (31, 16),
-        (32, 32),
-        (33, 65),
-        (64, 47),
-    ] {
-        compare_levels(heap, tally, noise, height, width)?;
+    // Some larger sizes.
+    fn compare_large(&mut self) -> Result<(), AllocError> {
+        for (height, width) in [
+            (1, 100),
+            (100, 1),
+            (17, 33),
+            (31, 16),
+            (32, 32),
+            (33, 65),
+            (64, 47),
+        ] {
+            self.compare_levels(height, width)?;
+        }
+        Ok(())
     }
-    Ok(())
 }
 
 fn run(rt: &HostRuntime) -> anyhow::Result<()> {
-    let heap = rt.alloc();
-    let mut tally = Tally::default();
-    let mut noise = Noise::new(20261117);
-    compare_small(heap, &mut tally, &mut noise)?;
-    compare_large(heap, &mut tally, &mut noise)?;
+    let mut check = Check {
+        heap: rt.alloc(),
+        tally: Tally::default(),
+        noise: Noise::new(20261117),
+    };
+    check.compare_small()?;
+    check.compare_large()?;
     println!(rt;
         "{} plates, {} cells compared, {} differences",
-        tally.plates, tally.cells, tally.differences
+        check.tally.plates, check.tally.cells, check.tally.differences
     )?;
     Ok(())
 }

@@ -3,9 +3,11 @@ ghost use Rattle.std.specs.Prelude.{ℤ};
 
 use kernels::choice::KernelChoice;
 use std::alloc::{AllocError, Global};
+use std::iter::StepBy;
+use std::ops::Range;
 
 // A picture or its cells, row by row.
-#[derive(Drop)]
+#[derive(Clone, Drop)]
 pub struct Rows {
     pub rows: Vec<Vec<i64>>,
 }
@@ -42,13 +44,6 @@ impl Rows {
                 *place = number;
             }
         }
-    }
-
-    // The same numbers again.
-    pub fn copy(&self) -> Result<Rows, AllocError> {
-        Ok(Rows {
-            rows: self.rows.clone()?,
-        })
     }
 }
 
@@ -112,6 +107,26 @@ enum Way {
     Along,
 }
 
+impl Way {
+    // The row and the column of a place on a line; from a row and a column, the line and the place again.
+    fn place(self, line: usize, i: usize) -> (usize, usize) {
+        match self {
+            Way::Down => (i, line),
+            Way::Along => (line, i),
+        }
+    }
+
+    // How many lines a picture has, and how long they are.
+    fn sides(self, picture: &Rows) -> (usize, usize) {
+        self.place(picture.height(), picture.width())
+    }
+}
+
+// The places of a lattice on a line of n places.
+fn lattice(n: usize, step: usize) -> StepBy<Range<usize>> {
+    (0..n).step_by(step.max(1))
+}
+
 // Every 2^k-th number of a line of the plate.
 fn take_line(
     heap: Global,
@@ -120,26 +135,19 @@ fn take_line(
     index: usize,
     step: usize,
 ) -> Result<Vec<i64>, AllocError> {
-    let whole = match way {
-        Way::Down => picture.height(),
-        Way::Along => picture.width(),
-    };
-    (0..whole)
-        .filter(|i| i.checked_rem(step) == Some(0))
-        .map(|i| match way {
-            Way::Down => picture.get(i, index),
-            Way::Along => picture.get(index, i),
+    let (_, length) = way.sides(picture);
+    lattice(length, step)
+        .map(|i| {
+            let (row, column) = way.place(index, i);
+            picture.get(row, column)
         })
         .collect(heap)
 }
 
 fn put_line(picture: &mut Rows, way: Way, index: usize, step: usize, line: &[i64]) {
     for (i, number) in line.iter().enumerate() {
-        let place = i.wrapping_mul(step);
-        match way {
-            Way::Down => picture.set(place, index, *number),
-            Way::Along => picture.set(index, place, *number),
-        }
+        let (row, column) = way.place(index, i.wrapping_mul(step));
+        picture.set(row, column, *number);
     }
 }
 
@@ -151,11 +159,8 @@ fn lift_lines(
     way: Way,
     step: usize,
 ) -> Result<(), AllocError> {
-    let across = match way {
-        Way::Down => picture.width(),
-        Way::Along => picture.height(),
-    };
-    for index in (0..across).filter(|index| index.checked_rem(step) == Some(0)) {
+    let (lines, _) = way.sides(picture);
+    for index in lattice(lines, step) {
         let mut line = take_line(heap, picture, way, index, step)?;
         lift_line(kernel, &mut line);
         put_line(picture, way, index, step, &line);

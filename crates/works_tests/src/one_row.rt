@@ -35,14 +35,8 @@ fn check_row<K: Kernel>(
     let mut cells = [Cell::BLANK; 4];
     let mut scratch = [Cell::BLANK; 4];
     let mut output = [0; 2];
-    let Some(levels) = Level::new(2) else {
-        assert!(rt; false, "no such level");
-        return Ok(());
-    };
-    let Some(level) = Level::new(1) else {
-        assert!(rt; false, "no such level");
-        return Ok(());
-    };
+    let levels = Level::new(2).ok_or("no such level")?;
+    let level = Level::new(1).ok_or("no such level")?;
     let transform = Transform { kernel, levels };
     assert!(rt;
         transform
