@@ -15,7 +15,7 @@ use Rattle.model.specs.Calls.{samples_of}
 use Rattle.model.specs.Plain.{first_over}
 use Rattle.plates.specs.Plans.{lawful_plan}
 use Rattle.plates.proofs.Passing.{passed, not_false}
-use Rattle.plates.proofs.Samples.{over, is_not_over}
+use Rattle.plates.proofs.Samples.{over}
 use Rattle.plates.proofs.Settling.{lawful_parts, can_be_made}
 use Rattle.sheet_job.specs.Reports.{plan_of}
 
@@ -34,6 +34,9 @@ lawful_picture w h p a b =
     and_from (is_side h && is_side w) _ (and_from (is_side h) (is_side w) sides.1 sides.0) (and_from (is_top p) (within_budget p 2) (not_false _ b) budget)
 
 -- no sample is over the top
+is_not_over : (top : ℕ) (xs : List ℕ) (i : ℕ) → get_or xs i 0 ≤ top → over top xs i ≡ false
+is_not_over top xs i h = ap not (le-leb (get_or xs i 0) top h)
+
 none_is_over : (p m : ℕ) (samples : List ℕ) → length (take m samples) ≡ m → ((k : ℕ) → k < m → get_or samples k 0 ≤ p)
     → ltb (first_over p (samples_of (take m samples))) (length (take m samples)) ≡ false
 none_is_over p m samples l small =
