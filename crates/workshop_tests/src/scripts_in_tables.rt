@@ -70,24 +70,22 @@ fn check_printed(
     Ok(())
 }
 
+fn check_table(rt: &impl Abort, heap: Global, kept: Kept) -> Result<(), Fail> {
+    check_printed(rt, heap, kept, SHEETS, SHEETS_PRINT)?;
+    check_printed(rt, heap, kept, UNLAID, UNLAID_PRINT)?;
+    check_printed(rt, heap, kept, EDITED, EDITED_PRINT)?;
+    check_printed(rt, heap, kept, NO_SIDE, NO_STORE_PRINT)?;
+    check_printed(rt, heap, kept, TOO_LONG, NO_STORE_PRINT)
+}
+
 #[test]
 fn a_flat_store_prints_what_the_table_says(rt: HostRuntime) -> Result<(), Fail> {
-    let heap = rt.alloc();
-    check_printed(&rt, heap, Kept::InRecords, SHEETS, SHEETS_PRINT)?;
-    check_printed(&rt, heap, Kept::InRecords, UNLAID, UNLAID_PRINT)?;
-    check_printed(&rt, heap, Kept::InRecords, EDITED, EDITED_PRINT)?;
-    check_printed(&rt, heap, Kept::InRecords, NO_SIDE, NO_STORE_PRINT)?;
-    check_printed(&rt, heap, Kept::InRecords, TOO_LONG, NO_STORE_PRINT)
+    check_table(&rt, rt.alloc(), Kept::InRecords)
 }
 
 #[test]
 fn a_tile_file_prints_the_same(rt: HostRuntime) -> Result<(), Fail> {
-    let heap = rt.alloc();
-    check_printed(&rt, heap, Kept::InAFile, SHEETS, SHEETS_PRINT)?;
-    check_printed(&rt, heap, Kept::InAFile, UNLAID, UNLAID_PRINT)?;
-    check_printed(&rt, heap, Kept::InAFile, EDITED, EDITED_PRINT)?;
-    check_printed(&rt, heap, Kept::InAFile, NO_SIDE, NO_STORE_PRINT)?;
-    check_printed(&rt, heap, Kept::InAFile, TOO_LONG, NO_STORE_PRINT)
+    check_table(&rt, rt.alloc(), Kept::InAFile)
 }
 
 // Three bytes are no tile file: the fault is all that is printed, and there is nothing to save.
