@@ -2,4 +2,6 @@
 #![tactic(auto)]
 
 #[cfg(test)]
+mod every_fault;
+#[cfg(test)]
 mod runs;
