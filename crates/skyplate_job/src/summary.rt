@@ -16,10 +16,16 @@ impl Summary {
     pub fn new(picture: Picture, samples: &[u16]) -> Summary
         ensures has_the_smallest_and_the_largest_sample { result ≡ summary_of picture samples.now }
     {
+        let mut smallest = u16::MAX;
+        let mut largest = 0u16;
+        for sample in samples {
+            smallest = smallest.min(*sample);
+            largest = largest.max(*sample);
+        }
         Summary {
             picture,
-            smallest: samples.iter().fold(u16::MAX, |least, x| least.min(*x)),
-            largest: samples.iter().fold(0, |most, x| most.max(*x)),
+            smallest,
+            largest,
         }
     }
 }
