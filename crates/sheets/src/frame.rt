@@ -57,6 +57,15 @@ fn cell_bytes(number: i32) -> [u8; 4]
     number.to_be_bytes()
 }
 
+// The number at a place inside.
+fn number_at<S: Store>(store: &S, row: usize, column: usize) -> i32
+    requires a_row { row < (S.Plane.picture store.now).height }
+    requires a_column { column < (S.Plane.picture store.now).width }
+    ensures is_the_number { result ≡ (S.Plane.picture store.now).number row column }
+{
+    store.read(row, column).unwrap()
+}
+
 // Writes bytes into a frame from a place on.
 fn put(frame: &mut [u8], at: usize, bytes: &[u8])
     requires { at + length bytes.now ≤ length frame.old }
@@ -74,7 +83,7 @@ pub(crate) fn fill_frame<S: Store>(store: &S, run: Run, frame: &mut [u8])
 {
     put(frame, 0, &run_head(run));
     for i in 0..run.count {
-        let number = store.read(run.row, run.first + i).unwrap();
+        let number = number_at(store, run.row, run.first + i);
         put(frame, 6 + 4 * i, &cell_bytes(number));
     }
 }

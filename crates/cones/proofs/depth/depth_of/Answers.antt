@@ -9,4 +9,5 @@ returns-then-not-is_on c =
 pub returns : goal.returns
 returns c =
     let e : c.loop-number.number ≡ c.args.levels.number = omega arith in
-    record { is_the_depth = depth_is c.args.levels.number c.args.levels.number c.args.row c.args.column (omega arith) (rw e at c.loop-number.invariant) (λ g. absurd (omega arith)) }
+    let d = depth_is c.args.levels.number c.args.levels.number c.args.row c.args.column (omega arith) (rw e at c.loop-number.invariant) (λ g. absurd (omega arith)) in
+    record { is_the_depth = omega (arith, d) }

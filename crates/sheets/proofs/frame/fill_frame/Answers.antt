@@ -1,6 +1,5 @@
-use Rattle.std.proofs.Common.{◌≡◌, ◌+◌, ap, ◌∙◌, subst, arith, w32, SFits, to_z, of_z, rules}
+use Rattle.std.proofs.Common.{◌≡◌, ◌+◌, ap, ◌∙◌, arith, w32, SFits, to_z, of_z, rules}
 use Rattle.std.proofs.lemmas.Int.{to_z-of_z}
-use Rattle.planes.specs.Planes.{Answers}
 use Rattle.sheets.specs.Sheets.{number_bytes}
 use Rattle.sheets.proofs.Framing.{bytes_none, bytes_more, bytes_all}
 use Rattle.sheets.proofs.frame.fill_frame.Goals as goal
@@ -10,11 +9,9 @@ loop-i-init g c = bytes_none (g.S.Plane.picture c.args.store.now).number c.args.
 
 pub loop-i-preserved : goal.loop-i-preserved
 loop-i-preserved g c =
-    let p = g.S.Plane.picture c.args.store.now in
-    let number = (subst (Answers p c.args.run.row (c.args.run.first + c.loop-i.i) (p.number c.args.run.row (c.args.run.first + c.loop-i.i))) c.unwrap-number.ensures c.read.ensures.answers_the_number).1 in
-    let f : SFits w32 c.unwrap-number.result = search rules in
-    let z : to_z w32 (of_z w32 c.unwrap-number.result) ≡ (g.S.Plane.picture c.args.store.now).number c.args.run.row (c.args.run.first + c.loop-i.i) =
-    to_z-of_z w32 c.unwrap-number.result f ∙ number in
+    let f : SFits w32 c.number_at-number.result = search rules in
+    let z : to_z w32 (of_z w32 c.number_at-number.result) ≡ (g.S.Plane.picture c.args.store.now).number c.args.run.row (c.args.run.first + c.loop-i.i) =
+    to_z-of_z w32 c.number_at-number.result f ∙ c.number_at-number.ensures.is_the_number in
     c.put-in-loop-i.ensures.writes_the_bytes
     ∙ bytes_more (g.S.Plane.picture c.args.store.now).number c.args.run.row c.args.run.first c.put.new.frame c.loop-i.frame c.cell_bytes.result c.loop-i.i
     (omega arith) c.loop-i.invariant (c.cell_bytes.ensures.are_its_bytes ∙ ap number_bytes z)

@@ -18,7 +18,9 @@ returns-in-Some c =
     let r = MatchOption-at_some _ _ i c.in-Some.is (first_from_Range (record { start = 0; end = s.count }) _ _ _ (λ k. test k ≡ true) (λ k. test k ≡ false) c.find.ensures.ran (λ x q e. search rules) (λ x q e. search rules)) in
     let e : i ≡ first_index test s.count = sym (first_is test s.count i r.1 r.2 (λ k l. r.3 k (omega arith) l)) in
     let l : true ≡ ltb i s.count = sym (lt-ltb i s.count r.1) in
-    record { names_the_first_sample_over_the_top = ap (λ b. cond b (Some (Sample Pgm i)) None) l ∙ ap (λ j. cond (ltb j s.count) (Some (Sample Pgm j)) None) e }
+    let found : Some (Sample Pgm i) ≡ cond (ltb (first_index test s.count) s.count) (Some (Sample Pgm (first_index test s.count))) None =
+    ap (λ b. cond b (Some (Sample Pgm i)) None) l ∙ ap (λ j. cond (ltb j s.count) (Some (Sample Pgm j)) None) e in
+    record { names_the_first_sample_over_the_top = grind (arith, found) }
 
 pub returns-in-None : goal.returns-in-None
 returns-in-None c =
