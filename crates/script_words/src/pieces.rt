@@ -1,27 +1,29 @@
 // The next line of a text, and the next word of a line.
-ghost use Rattle.std.specs.Prelude.{◌≡◌, ◌<◌, [], ◌∷◌, length, MatchOption, position, ◌==◌};
+ghost use Rattle.std.specs.Prelude.{◌≡◌, ℕ, ◌<◌, ◌≤◌, [], ◌∷◌, length, MatchOption, ◌≢◌, slice_index};
 ghost use Rattle.std.specs.Iterator.{YieldsFirstRef, item_count};
 ghost use Rattle.script_words.specs.Words.{pieces, lines, words};
 
-// Where the first byte stands that ends a piece.
-fn first_end(text: &[u8], end: u8) -> Option<usize>
-    ensures is_the_first_place { result ≡ position (λ b. b == end) text.now }
+// How many bytes stand before the first one that ends a piece.
+fn piece_length(text: &[u8], end: u8) -> usize
+    ensures is_within { result ≤ length text.now }
+    ensures no_end_is_before { (k : ℕ) → k < result → slice_index text.now k ≢ end }
+    ensures an_end_is_there { result < length text.now → slice_index text.now result ≡ end }
 {
-    text.iter().position(|b| *b == end)
+    text.iter().position(|b| *b == end).unwrap_or(text.len())
 }
 
 // The first piece of a text, and the text after it; none where the text is empty.
-#[tactic(auto, using(std::proofs::lemmas::Grind::common_steps, crate::proofs::Fronts::first_piece), unfolding(crate::specs::Words::pieces))]
 fn next_piece(text: &[u8], end: u8) -> Option<(&[u8], &[u8])>
     ensures is_the_first_piece { MatchOption result (pieces end text.now ≡ []) (λ p. (pieces end text.now ≡ p.0.now ∷ pieces end p.1.now) × (length p.1.now < length text.now)) }
 {
     if text.is_empty() {
         return None;
     }
-    match first_end(text, end) {
-        Some(at) => Some((&text[..at], &text[at + 1..])),
-        None => Some((text, &[])),
+    let (piece, rest) = text.split_at(piece_length(text, end));
+    if rest.is_empty() {
+        return Some((piece, rest));
     }
+    Some((piece, &rest[1..]))
 }
 
 // The first line of a text, and the text after it; none where the text is empty.
